@@ -1,0 +1,34 @@
+use mathlib.Core.Path.{_≡_, sym, subst}
+use lib.Dec.{T}
+use lib.Ieee.{ofBits, neg, toSigned}
+use lib.Ieee.Compare.{differs-from-itself}
+use Rattle.leaves.proofs.CastEnds.{to-max, to-min, of-nan}
+use borrow.Author.Needs.{needs}
+use Rattle.leaves.proofs.cast.to_i64.Statement.{statement}
+use Rattle.leaves.proofs.cast.to_i64.Tie as tie
+
+truncating-f64-to-i64-requires : tie.Need-truncating-f64-to-i64-requires
+unfolding ofBits neg
+truncating-f64-to-i64-requires c κs = (subst T (sym (c .if2 .taken)) tt, subst T (sym (c .before .if1 .taken)) tt)
+
+returns : tie.Need-returns
+returns c = search needs
+
+sub-result : tie.Need-sub-result
+sub-result c = search needs
+
+returns-2 : tie.Need-returns-2
+unfolding ofBits neg
+returns-2 c = sym (to-min (c .before .before .args .x) (c .before .if1 .taken) (c .if2 .left))
+
+returns-3 : tie.Need-returns-3
+returns-3 c = sym (of-nan (c .before .before .args .x) (c .if3 .taken))
+
+returns-4 : tie.Need-returns-4
+unfolding ofBits
+returns-4 c = sym (to-max (c .before .before .args .x) (c .before .if1 .left) (c .if3 .left))
+
+pub to-i64-spec : {M : Type 1} → statement M
+to-i64-spec =
+    tie.close
+    (tie.spec truncating-f64-to-i64-requires returns sub-result returns-2 returns-3 returns-4)

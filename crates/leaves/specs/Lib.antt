@@ -1,0 +1,12 @@
+-- What the contracts of `leaves` cite (Num, Root, Whole, Order, Answer), and what is proved of it.
+pub mod Num
+pub mod Root
+pub mod Order
+pub mod Whole
+pub mod Answer
+pub mod OrderLaws
+pub mod WholeLaws
+pub mod RootLaws
+pub mod Encode
+pub mod Decode
+pub mod Correct

@@ -1,0 +1,48 @@
+// Floor and ceiling, a zero keeping its operand's sign.
+ghost use mathlib.Core.Path.{_≡_};
+ghost use mathlib.Core.Bool.{cond};
+ghost use lib.Ieee.{neg};
+ghost use Rattle.leaves.specs.Whole.{wholeOf, floor, ceil};
+use crate::order::is_negative;
+use crate::order::magnitude;
+
+// v, or -v where s is set.
+fn signed(s: bool, v: f64) -> f64
+    ensures { λ r. ⌜ r ≡ cond s (neg v) v ⌝ }
+{
+    if s { -v } else { v }
+}
+
+// The magnitude made whole, toward zero or away from it, with x's sign.
+fn whole(x: f64, away: bool) -> f64
+    ensures { λ r. ⌜ r ≡ wholeOf away x ⌝ }
+{
+    let a = magnitude(x);
+    if a < 9007199254740992.0 {
+        let n = std::num::truncating_f64_to_u64(a);
+        let t = std::num::nearest_u64_to_f64(n);
+        let s = is_negative(x);
+        if away {
+            if t < a {
+                return signed(s, std::num::nearest_u64_to_f64(n + 1));
+            }
+            return signed(s, t);
+        }
+        return signed(s, t);
+    }
+    x
+}
+
+// The whole number at or below x: x itself where it is not finite.
+pub fn floor(x: f64) -> f64
+    ensures { λ r. ⌜ r ≡ floor x ⌝ }
+{
+    whole(x, is_negative(x))
+}
+
+// The whole number at or above x: x itself where it is not finite.
+pub fn ceil(x: f64) -> f64
+    ensures { λ r. ⌜ r ≡ ceil x ⌝ }
+{
+    whole(x, !is_negative(x))
+}

@@ -1,0 +1,1 @@
+// Laws on lists that every layer uses, in specs/. No code.
