@@ -1,0 +1,3 @@
+-- What the contracts of `geom` cite (Point, Outline), and what is proved of it.
+pub mod Point
+pub mod Outline
