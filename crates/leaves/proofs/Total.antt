@@ -1,26 +1,25 @@
 -- The root of every pattern: which answer it has.
 use mathlib.Core.Path.{_≡_, refl, sym, ap, subst, _∙_}
 use mathlib.Core.Bool.{Bool, true, false, not, cond}
-use mathlib.Core.Logic.{⊎-elim, _⊎_, inl, inr}
 use Prim.Native.Nat.{ℕ, zero, suc, _+_, _-_, _*_, _/_, _%_, _^_, _≤_, _<_}
 use native.Mathlib.Nat.{mul-pos, zero-mul, lt-irrefl}
 use native.Mathlib.Decide.{decLt}
-use lib.Ieee.Compare.{differs-from-itself}
 use native.Mathlib.Omega.{arith}
 use lib.IntN.{ℤ, pos}
 use lib.Pow.{pow-pos}
 use lib.Dec.{T, leb, eqb}
 use lib.Count.{trailingZeros}
-use borrow.Author.Tests.{lt-leb, le-leb}
-use lib.Ieee.{Float, nan, inf, fin, binary64, up, down, minus, size, odd, ofBits, toBits, ofFields, fits, isNan, ne}
+use borrow.Author.Tests.{lt-leb, le-leb, ne-eqb}
+use lib.Ieee.{Float, nan, inf, fin, binary64, up, down, minus, odd, ofBits, toBits, ofFields, fits, isNan, ne}
+use lib.Ieee.Compare.{differs-from-itself}
 use lib.Ieee.Digits.{Equals, odd-val}
 use lib.Ieee.Fits.{down-pos}
-use lib.Ieee.Bits.{ofBits-toBits, toBits-lt, is-false}
-use Rattle.leaves.specs.Root.{nearRoot, rootUnits, root}
-use Rattle.leaves.specs.Answer.{leafOf}
-use Rattle.leaves.specs.declared.Leaf.{Leaf}
-use Rattle.leaves.specs.declared.Leaf.the-variants.{Value, Refused}
-use Rattle.leaves.specs.Decode.{read, read-low, read-mid, root-odd}
+use lib.Ieee.Bits.{ofBits-toBits}
+use Rattle.leaves.specs.Root.{root}
+use Rattle.leaves.specs.Decode.{read}
+
+pub is-nan : (x : Float) → ne x x ≡ true → x ≡ nan
+is-nan x h = differs-from-itself x (subst T (sym h) tt)
 
 pub not-nan : (x : Float) → ne x x ≡ false → T (not (isNan x))
 unfolding ne isNan
@@ -28,33 +27,29 @@ not-nan nan h = subst T h tt
 not-nan (inf s) h = tt
 not-nan (fin s m e) h = tt
 
-pub nan-refused : (x : Float) → ne x x ≡ true → Refused ≡ leafOf (root x)
-unfolding root leafOf
-nan-refused x h = subst (λ (v : Float). Refused ≡ leafOf (root v)) (sym (differs-from-itself x (subst T (sym h) tt))) refl
-
 -- what a pattern says of its value holds of the value
 pub by-pattern : (P : Float → Type 0) (x : Float) → T (fits binary64 x) → P (ofBits binary64 (toBits binary64 x)) → P x
 by-pattern P x h p = subst P (ofBits-toBits binary64 x h) p
 
-pub plus-zero : (b : ℕ) → b ≡ 0 → Value (ofBits binary64 b) ≡ leafOf (root (ofBits binary64 b))
-unfolding ofBits root leafOf
-plus-zero b e = subst (λ (b : ℕ). Value (ofBits binary64 b) ≡ leafOf (root (ofBits binary64 b))) (sym e) refl
+-- ---- a NaN, the zeros and the infinity above are their own roots
+abbrev pub Own : Float → Type 0
+Own x = x ≡ root x
 
-pub minus-zero : (b : ℕ) → b ≡ 2 ^ 63 → Value (ofBits binary64 b) ≡ leafOf (root (ofBits binary64 b))
-unfolding ofBits root leafOf
-minus-zero b e = subst (λ (b : ℕ). Value (ofBits binary64 b) ≡ leafOf (root (ofBits binary64 b))) (sym e) refl
+pub nan-own : (x : Float) → ne x x ≡ true → Own x
+unfolding root
+nan-own x h = subst Own (sym (is-nan x h)) refl
 
--- ---- above zero
-finite-odd : (d : ℕ) (s : Bool) (q k l : ℕ) → leafOf (odd d s q k l) ≡ Value (odd d s q k l)
-unfolding odd leafOf
-finite-odd d s zero k l = refl
-finite-odd d s (suc q) k l = refl
+pub zero-own : (b : ℕ) → b ≡ 0 → Own (ofBits binary64 b)
+unfolding ofBits root
+zero-own b e = subst (λ (b : ℕ). Own (ofBits binary64 b)) (sym e) refl
 
-finite-root : (n : ℕ) → leafOf (rootUnits n) ≡ Value (rootUnits n)
-unfolding rootUnits
-finite-root n =
-    let k = (size n + 1 - 106) / 2 in
-    finite-odd 54 false (nearRoot 53 (n / 4 ^ k)) k 1074
+pub minus-zero-own : (b : ℕ) → b ≡ 2 ^ 63 → Own (ofBits binary64 b)
+unfolding ofBits root
+minus-zero-own b e = subst (λ (b : ℕ). Own (ofBits binary64 b)) (sym e) refl
+
+pub infinity-own : (b : ℕ) → b ≡ 2047 * 2 ^ 52 → Own (ofBits binary64 b)
+unfolding ofBits root
+infinity-own b e = subst (λ (b : ℕ). Own (ofBits binary64 b)) (sym e) refl
 
 -- ---- below zero
 none : (a d : ℕ) → 0 < a → 0 < d → 0 ≡ a * d → ⊥
@@ -70,42 +65,26 @@ unfolding odd
 below-odd d zero k h = absurd (lt-irrefl 0 h)
 below-odd d (suc q) k h = below-fin (suc q / 2 ^ trailingZeros d (suc q)) (minus (k + trailingZeros d (suc q)) 1074) (suc q * 2 ^ k) (mul-pos h (pow-pos k)) (odd-val d true (suc q) k 1074)
 
--- ---- by the fields
-top-field : (s : Bool) (t : ℕ) → Refused ≡ leafOf (root (ofFields binary64 s 2047 t))
-unfolding ofFields root leafOf
-top-field s t = go s (eqb t 0)
-  where
-    go : (s b : Bool) → Refused ≡ leafOf (root (cond b (inf s) nan))
-    go true true = refl
-    go false true = refl
-    go true false = refl
-    go false false = refl
-
-below-field : (x t : ℕ) → 0 < x + t → Refused ≡ leafOf (root (ofFields binary64 true x t))
-unfolding ofFields root leafOf
-below-field zero t h = sym (ap leafOf (below-odd 53 t 0 (omega arith)))
+below-field : (x t : ℕ) → 0 < x + t → root (ofFields binary64 true x t) ≡ nan
+unfolding ofFields root
+below-field zero t h = below-odd 53 t 0 (omega arith)
 below-field (suc x) t h = go (eqb (suc x) 2047) (eqb t 0)
   where
-    go : (a b : Bool) → Refused ≡ leafOf (root (cond a (cond b (inf true) nan) (odd 53 true (2 ^ 52 + t) x 1074)))
+    go : (a b : Bool) → root (cond a (cond b (inf true) nan) (odd 53 true (2 ^ 52 + t) x 1074)) ≡ nan
     go true true = refl
     go true false = refl
-    go false b = sym (ap leafOf (below-odd 53 (2 ^ 52 + t) x (omega arith)))
+    go false b = below-odd 53 (2 ^ 52 + t) x (omega arith)
 
-pub high-refused : (b : ℕ) → b < 2 ^ 64 → 2047 * 2 ^ 52 ≤ b → (b ≡ 2 ^ 63 → ⊥) → Refused ≡ leafOf (root (ofBits binary64 b))
-high-refused b u h n = go (decLt b (2 ^ 63))
+-- a pattern past the infinity above, but for -0
+top-field : (t : ℕ) → eqb t 0 ≡ false → root (ofFields binary64 false 2047 t) ≡ nan
+unfolding ofFields root
+top-field t e = ap (λ (a : Bool). root (cond a (inf false) nan)) e
+
+pub no-root : (b : ℕ) → b < 2 ^ 64 → 2047 * 2 ^ 52 < b → (b ≡ 2 ^ 63 → ⊥) → nan ≡ root (ofBits binary64 b)
+no-root b u h n = go (decLt b (2 ^ 63))
   where
-    go : Dec (b < 2 ^ 63) → Refused ≡ leafOf (root (ofBits binary64 b))
-    go (yes l) = top-field false (b % 2 ^ 52) ∙ sym (ap (λ (v : Float). leafOf (root v)) (read b {s = false} {x = 2047} (lt-leb (2 ^ 63) b l) (omega arith) refl))
+    go : Dec (b < 2 ^ 63) → nan ≡ root (ofBits binary64 b)
+    go (yes l) = sym (ap root (read b {s = false} {x = 2047} (lt-leb (2 ^ 63) b l) (omega arith) refl) ∙ top-field (b % 2 ^ 52) (ne-eqb (b % 2 ^ 52) 0 (λ e. omega arith)))
     go (no g) =
         let l : 2 ^ 63 ≤ b = omega arith in
-        below-field (b % 2 ^ 63 / 2 ^ 52) (b % 2 ^ 52) (omega arith) ∙ sym (ap (λ (v : Float). leafOf (root v)) (read b {s = true} (le-leb (2 ^ 63) b l) refl refl))
-
-pub positive-root : (b : ℕ) → 0 < b → b < 2047 * 2 ^ 52 → Value (root (ofBits binary64 b)) ≡ leafOf (root (ofBits binary64 b))
-positive-root b p h = go (decLt b (2 ^ 52))
-  where
-    by : (v : Float) (n : ℕ) → v ≡ rootUnits n → Value v ≡ leafOf v
-    by v n e = subst (λ (v : Float). Value v ≡ leafOf v) (sym e) (sym (finite-root n))
-
-    go : Dec (b < 2 ^ 52) → Value (root (ofBits binary64 b)) ≡ leafOf (root (ofBits binary64 b))
-    go (yes l) = by _ _ (ap (root) (read-low b l) ∙ root-odd 53 b 0 p)
-    go (no g) = by _ _ (ap (root) (read-mid b (omega arith) h) ∙ root-odd 53 (2 ^ 52 + b % 2 ^ 52) (b / 2 ^ 52 - 1) (omega arith))
+        sym (ap root (read b {s = true} (le-leb (2 ^ 63) b l) refl refl) ∙ below-field (b % 2 ^ 63 / 2 ^ 52) (b % 2 ^ 52) (omega arith))

@@ -10,7 +10,7 @@ use Rattle.leaves.specs.Order.{finite, before, smaller, larger, magnitud
 use Rattle.leaves.specs.declared.checked.Leaf.{Leaf}
 use Rattle.leaves.specs.declared.checked.Leaf.the-variants.{Value, Refused}
 use Rattle.leaves.specs.declared.checked.Place.{Place}
-use Rattle.leaves.specs.declared.checked.Place.the-variants.{Before, Same, After} 
+use Rattle.leaves.specs.declared.checked.Place.the-variants.{Before, Same, After}
 use Rattle.leaves.specs.declared.checked.Place.the-variants as place
 
 abbrev pub said : Leaf → Answer Float

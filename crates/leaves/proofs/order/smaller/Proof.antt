@@ -1,21 +1,27 @@
 use mathlib.Core.Path.{_≡_, sym, ap, subst, _∙_}
-use mathlib.Core.Bool.{Bool, not, _&&_, cond}
-use lib.Ieee.{Float}
-use Rattle.leaves.specs.Order.{smaller}
+use mathlib.Core.Bool.{Bool, cond}
+use lib.Ieee.{Float, isNan}
+use Rattle.leaves.specs.Order.{before, smaller}
+use Rattle.leaves.proofs.OrderTests.{tested, is-nan-true, is-nan-false}
 use borrow.Author.Needs.{needs}
 use Rattle.leaves.proofs.order.smaller.Statement.{statement}
 use Rattle.leaves.proofs.order.smaller.Tie as tie
 
-before-requires : tie.Need-before-requires
-before-requires c κs = search needs
-
 returns : tie.Need-returns
 unfolding smaller
-returns c = ap (λ (t : Bool). cond t (c .before .before .args .b) (c .before .before .args .a)) (sym (c .if1 .taken) ∙ c .before .before2 .ensures)
+returns c = rw (is-nan-true (c .before .args .a) (c .if1 .taken))
 
 returns-2 : tie.Need-returns-2
 unfolding smaller
-returns-2 c = ap (λ (t : Bool). cond t (c .before .before .args .b) (c .before .before .args .a)) (sym (c .if1 .left) ∙ c .before .before2 .ensures)
+returns-2 c =
+    let start = c .before .before .before in
+    rw (is-nan-false (start .args .a) (c .before .before .if1 .left), tested (c .before .before2 .ensures) (c .if2 .taken))
+
+returns-3 : tie.Need-returns-3
+unfolding smaller
+returns-3 c =
+    let start = c .before .before .before in
+    rw (is-nan-false (start .args .a) (c .before .before .if1 .left), tested (c .before .before2 .ensures) (c .if2 .left))
 
 pub smaller-spec : {M : Type 1} → statement M
-smaller-spec = tie.close (tie.spec before-requires returns returns-2)
+smaller-spec = tie.close (tie.spec returns (λ c κs. search needs) returns-2 returns-3)
