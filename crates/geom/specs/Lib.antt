@@ -1,3 +1,5 @@
--- What the contracts of `geom` cite (Point, Outline), and what is proved of it.
+-- What the contracts of `geom` cite (Point, Outline, Line), and what is proved of it.
 pub mod Point
 pub mod Outline
+pub mod Line
+pub mod LineLaws
