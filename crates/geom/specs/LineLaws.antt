@@ -8,7 +8,7 @@ use lib.ListN.{length, take, drop, getD, length-append}
 use lib.Ieee.{Float, nan, binary64, ofBits, round}
 use Rattle.leaves.specs.Num.{_⊕_, _⊘_, real, literal, zero64}
 use Rattle.seqs.specs.Front.{Front, front-at, front-room-block, front-whole, next, none}
-use Rattle.seqs.specs.Put.{put}
+use Rattle.seqs.specs.Put.{put, put-put}
 use Rattle.geom.specs.declared.point.P.{P}
 use Rattle.geom.specs.Point.{point, dist, lerp}
 use Rattle.geom.specs.Outline.{points}
@@ -162,3 +162,17 @@ module _ (l : List Float) (len : Float) where
       let q = pointIn l i in
       let rest = piecesFrom q (drop (i + 1) (points l)) len in
       ap length (pieces-next p i h) ∙ length-append (piece p q len) rest ∙ ap (λ (k : ℕ). k + length rest) (piece-length p q len)
+
+  -- the first corner, and then the pieces
+  module _ (h : 0 < length l / 2) where
+    pub line-flat : flat (resampleKeepCorners (points l) len) ≡ flat (pointIn l 0 ∷ []) ++ flat (pieces (points l) len)
+    line-flat = ap flat (resample-start h) ∙ flat-append (pointIn l 0 ∷ []) (pieces (points l) len)
+
+    pub line-size : length (flat (resampleKeepCorners (points l) len)) ≡ 2 + length (flat (pieces (points l) len))
+    unfolding flat
+    line-size = omega (arith, ap length line-flat)
+
+    pub line-put : (d d₁ y : List Float) (k : ℕ) → k + length (flat (resampleKeepCorners (points l) len)) ≤ length d → d₁ ≡ put d k (flat (pointIn l 0 ∷ [])) → y ≡ put d₁ (k + 2) (flat (pieces (points l) len))
+        → y ≡ put d k (flat (resampleKeepCorners (points l) len))
+    unfolding flat
+    line-put d d₁ y k fits e g = (rw e at g) ∙ put-put d (flat (pointIn l 0 ∷ [])) (flat (pieces (points l) len)) k (omega (arith, line-size)) ∙ rw line-flat

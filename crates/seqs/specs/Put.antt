@@ -1,10 +1,10 @@
 -- A slice into which a block is written from some place on, and the slices of a writer's loop. `put` is a definition; the rest are laws.
 -- Assumes nothing.
 use mathlib.Core.Path.{_≡_, refl, sym, ap, _∙_}
-use mathlib.Core.List.{List, [], _∷_, _++_, append-assoc}
+use mathlib.Core.List.{List, [], _∷_, _++_, append-assoc, append-nil}
 use Prim.Native.Nat.{ℕ, _+_, _-_, _≤_}
 use native.Mathlib.Omega.{arith}
-use lib.ListN.{length, take, drop, length-append, length-drop}
+use lib.ListN.{length, take, drop, length-append, length-drop, take-append-drop}
 use lib.Seq.{length-take-le, take-at, drop-at, drop-drop}
 use Rattle.seqs.specs.Front.{Front, front-end, front-at, front-count}
 
@@ -20,6 +20,9 @@ module _ {ℓ} {A : Type ℓ} where
   put-length d m k h =
       length-append (take k d ++ m) (drop (length (take k d ++ m)) d)
       ∙ omega (arith, put-head d m k (omega arith), length-drop (length (take k d ++ m)) d)
+
+  pub put-none : (d : List A) (k : ℕ) → k ≤ length d → d ≡ put d k []
+  put-none d k h = rw (append-nil, length-take-le k d h) (sym (take-append-drop k d))
 
   -- what is written behind the first k has room
   pub put-room : (d m : List A) (k : ℕ) → k + length m ≤ length d → length (take k d ++ m) ≤ length d
