@@ -1,0 +1,2 @@
+// Running stitch: stroke.rs.
+pub mod passes;
