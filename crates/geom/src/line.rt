@@ -1,12 +1,12 @@
 // A line of corners: its length, and the stitches along it that keep every corner.
 ghost use mathlib.Core.Path.{_≡_};
 ghost use mathlib.Core.List.{[], _∷_};
-ghost use Prim.Native.Nat.{_+_, _*_, _/_, _^_, _<_, _≤_};
+ghost use Prim.Native.Nat.{_+_, _*_, _^_, _<_, _≤_};
 ghost use lib.ListN.{length};
 ghost use Rattle.seqs.specs.Put.{put};
 ghost use Rattle.seqs.specs.Capped.{capped};
 ghost use Rattle.geom.specs.Outline.{points};
-ghost use Rattle.geom.specs.LineLaws.{pointIn};
+ghost use Rattle.geom.specs.OutlineLaws.{cornerAt};
 ghost use Rattle.geom.specs.Line.{flat, polylineLength, steps, pieceSteps, stepsFrom, pieces, resampleKeepCorners};
 use crate::point::P;
 use leaves::ceil;
@@ -14,32 +14,31 @@ use leaves::larger;
 use leaves::of_u64;
 use leaves::to_u64;
 
-// Corner i of a flat list.
+// The corner at place i.
 pub fn corner(s: &[f64], i: usize) -> P
-    requires { ⌜ 2 * i + 1 < length (now s) ⌝ }
-    ensures { λ r. ⌜ r ≡ pointIn (now (s .entry)) i ⌝ }
+    requires { ⌜ i + 1 < length (now s) ⌝ }
+    ensures { λ r. ⌜ r ≡ cornerAt (now (s .entry)) i ⌝ }
 {
     P {
-        x: s[2 * i],
-        y: s[2 * i + 1],
+        x: s[i],
+        y: s[i + 1],
     }
 }
 
 pub fn polyline_length(line: &[f64]) -> f64
     ensures { λ r. ⌜ r ≡ polylineLength (points (now (line .entry))) ⌝ }
 {
-    let n = line.len() / 2;
-    if n == 0 {
+    if line.len() < 2 {
         return 0.0;
     }
     let mut sum = 0.0;
     let mut p = corner(line, 0);
-    let mut i = 1;
-    while i < n {
+    let mut i = 2;
+    while i + 1 < line.len() {
         let q = corner(line, i);
         sum = sum + p.dist(q);
         p = q;
-        i += 1;
+        i += 2;
     }
     sum
 }
@@ -50,7 +49,7 @@ fn steps(d: f64, len: f64) -> u64
     to_u64(larger(ceil(d / len), 1.0))
 }
 
-// How many stitches lead from a to b.
+// How many stitches lead from a to b: none where the piece is skipped.
 pub fn piece_steps(a: P, b: P, len: f64) -> u64
     ensures { λ r. ⌜ r ≡ pieceSteps a b len ⌝ }
 {
@@ -80,18 +79,17 @@ pub fn count_line(line: &[f64], len: f64, room: u64) -> u64
     requires { ⌜ room < 2 ^ 63 ⌝ }
     ensures { λ r. ⌜ r ≡ capped room (length (resampleKeepCorners (points (now (line .entry))) len)) ⌝ }
 {
-    let n = line.len() / 2;
-    if n == 0 {
+    if line.len() < 2 {
         return 0;
     }
     let mut p = corner(line, 0);
     let mut c: u64 = 1;
-    let mut i = 1;
-    while i < n {
+    let mut i = 2;
+    while i + 1 < line.len() {
         let q = corner(line, i);
         c = add_within(c, piece_steps(p, q, len), room);
         p = q;
-        i += 1;
+        i += 2;
     }
     c
 }
@@ -123,18 +121,17 @@ pub fn put_piece(out: &mut [f64], k: usize, a: P, b: P, n: u64) -> usize
 
 // All points after the first corner, from k on; answers the place after them.
 fn put_pieces(out: &mut [f64], k: usize, line: &[f64], len: f64) -> usize
-    requires { ⌜ (0 < length (now line) / 2) × (k + length (flat (pieces (points (now line)) len)) ≤ length (now out)) ⌝ }
+    requires { ⌜ (1 < length (now line)) × (k + length (flat (pieces (points (now line)) len)) ≤ length (now out)) ⌝ }
     ensures { λ r. ⌜ (now (out .exit) ≡ put (now (out .entry)) k (flat (pieces (points (now (line .entry))) len))) × (r ≡ k + length (flat (pieces (points (now (line .entry))) len))) ⌝ }
 {
-    let n = line.len() / 2;
     let mut p = corner(line, 0);
     let mut at = k;
-    let mut i = 1;
-    while i < n {
+    let mut i = 2;
+    while i + 1 < line.len() {
         let q = corner(line, i);
         at = put_piece(out, at, p, q, piece_steps(p, q, len));
         p = q;
-        i += 1;
+        i += 2;
     }
     at
 }

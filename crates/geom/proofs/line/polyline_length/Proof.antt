@@ -1,25 +1,24 @@
 -- `polyline_length` meets its contract: what the sum so far and the corners from i on come to is the answer. Assumes nothing.
 use mathlib.Core.Path.{_≡_, sym, _∙_}
-use Prim.Native.Nat.{_≤_, _-_, _/_}
-use native.Mathlib.Omega.{arith}
+use Prim.Native.Nat.{_≤_, _-_}
 use lib.ListN.{length, drop}
 use lib.Ieee.{ofBits}
 use Rattle.geom.specs.Outline.{points}
 use Rattle.geom.specs.Line.{lengthFrom, polylineLength}
-use Rattle.geom.specs.LineLaws.{points-empty, length-start, length-next, length-end}
+use Rattle.geom.specs.LineLaws.{length-none, length-start, length-next, length-end}
 use borrow.Author.Needs.{needs}
 use Rattle.geom.proofs.line.polyline_length.Statement.{statement}
 use Rattle.geom.proofs.line.polyline_length.Tie as tie
 
 abbrev Inv-loop : tie.InvT-loop
-Inv-loop line n sum₀ p₀ i₀ sum p i = (i ≤ n) × (lengthFrom sum p (drop i (points line)) ≡ polylineLength (points line))
+Inv-loop line sum₀ p₀ i₀ sum p i = (i ≤ length line) × (lengthFrom sum p (points (drop i line)) ≡ polylineLength (points line))
 
 abbrev μ-loop : tie.MeasureT-loop
-μ-loop line n sum₀ p₀ i₀ sum p i = n - i
+μ-loop line sum₀ p₀ i₀ sum p i = length line - i
 
 returns : tie.Need-returns Inv-loop μ-loop
-unfolding polylineLength ofBits
-returns c = rw (points-empty (c .before .before .args .line .now) (c .if1 .taken))
+unfolding ofBits
+returns c = sym (length-none (c .before .before .args .line .now) (search needs))
 
 loop-holds : tie.Need-loop-holds Inv-loop μ-loop
 unfolding ofBits
@@ -33,4 +32,4 @@ returns-2 c = sym (length-end (c .before .before .before .before .before .args .
 
 pub polyline-length-spec : {M : Type 1} → statement M
 polyline-length-spec =
-    tie.close (tie.spec Inv-loop μ-loop returns (λ c κs. search needs) loop-holds (λ c κs. search needs) (λ c κs. search needs) (λ c. search needs) (λ c. search needs) loop-again returns-2)
+    tie.close (tie.spec Inv-loop μ-loop returns (λ c κs. search needs) loop-holds (λ c. search needs) (λ c κs. search needs) (λ c κs. search needs) (λ c. search needs) (λ c. search needs) loop-again returns-2)

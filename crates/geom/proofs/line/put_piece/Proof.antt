@@ -1,13 +1,14 @@
 -- `put_piece` meets its contract: the ends of the steps from i on are to be written from `at` on. Assumes nothing.
-use mathlib.Core.Path.{_≡_, refl, sym, ap, _∙_}
+use mathlib.Core.Path.{_≡_, refl}
 use Prim.Native.Nat.{_+_, _-_, _*_, _≤_}
 use native.Mathlib.Omega.{arith}
-use mathlib.Core.List.{List, [], _∷_, _++_}
+use mathlib.Core.List.{_++_}
 use lib.ListN.{length, take}
-use Rattle.seqs.specs.Front.{Front, front-from, front-at}
-use Rattle.seqs.specs.Put.{put-end, put-room}
+use Rattle.seqs.specs.Front.{Front, front-from}
+use Rattle.seqs.specs.Put.{put-end}
 use Rattle.geom.specs.Line.{flat, stepsFrom}
-use Rattle.geom.specs.LineLaws.{flat-none, steps-size, steps-next, steps-none, stepEnd, points-room, points-put}
+use Rattle.geom.specs.LineLaws.{flat-none, steps-size, steps-none}
+use Rattle.geom.proofs.LineSteps.{step-room, step-put}
 use borrow.Author.Needs.{needs}
 use Rattle.geom.proofs.line.put_piece.Statement.{statement}
 use Rattle.geom.proofs.line.put_piece.Tie as tie
@@ -28,17 +29,14 @@ put-point-requires : tie.Need-put-point-requires Inv-loop μ-loop
 put-point-requires c κs =
     let a = c .before .before .before .before .before .before .before .args in
     let l = c .before .before .before .before .loop in
-    let f = front-at (ap flat (steps-next (a .a) (a .b) (a .n) (l .i) (search needs))) (l .inv .3) in
-    let fits = put-room (a .out .now) (flat (stepsFrom (a .a) (a .b) (a .n) 1 (a .n))) (a .k) (omega (arith, c .before .before .before .before .before .before .before .pre, steps-size (a .a) (a .b) (a .n) 1 (a .n))) in
-    omega (arith, points-room (stepEnd (a .a) (a .b) (a .n) (l .i) ∷ []) (stepsFrom (a .a) (a .b) (a .n) (l .i + 1) (a .n + 1 - (l .i + 1))) f fits)
+    omega (arith, step-room (a .k) (a .a) (a .b) (a .n) (l .i) (l .inv .3) (c .before .before .before .before .before .before .before .pre) (search needs))
 
 loop-again : tie.Need-loop-again Inv-loop μ-loop
 loop-again c =
     let a = c .before .before .before .before .before .before .before .before .before .before .args in
     let l = c .before .before .before .before .before .before .before .loop in
-    let f = front-at (ap flat (steps-next (a .a) (a .b) (a .n) (l .i) (search needs))) (l .inv .3) in
-    let fits = put-room (a .out .now) (flat (stepsFrom (a .a) (a .b) (a .n) 1 (a .n))) (a .k) (omega (arith, c .before .before .before .before .before .before .before .before .before .before .pre, steps-size (a .a) (a .b) (a .n) 1 (a .n))) in
-    (search needs, search needs, omega arith, points-put (stepEnd (a .a) (a .b) (a .n) (l .i) ∷ []) (stepsFrom (a .a) (a .b) (a .n) (l .i + 1) (a .n + 1 - (l .i + 1))) f fits _ (rw (c .before .before .before .lerp .ensures, c .before .before .before .before .of-u642 .ensures, c .before .before .before .before .before .before .before .before .of-u64 .ensures) at (c .before .before .put-point .ensures)))
+    let e = rw (c .before .before .before .lerp .ensures, c .before .before .before .before .of-u642 .ensures, c .before .before .before .before .before .before .before .before .of-u64 .ensures) at (c .before .before .put-point .ensures) in
+    (search needs, search needs, omega arith, step-put (a .k) (a .a) (a .b) (a .n) (l .i) (l .inv .3) (c .before .before .before .before .before .before .before .before .before .before .pre) (search needs) _ e)
 
 same-length : tie.Need-same-length Inv-loop μ-loop
 same-length c = c .before .loop .inv .3 .len
