@@ -11,8 +11,9 @@ use lib.Ieee.{Float}
 use Rattle.seqs.specs.Front.{Front, front-at, front-take}
 use Rattle.seqs.specs.Put.{put, put-room}
 use Rattle.geom.specs.Outline.{points}
+use Rattle.geom.specs.OutlineLaws.{cornerAt}
 use Rattle.geom.specs.Line.{flat}
-use Rattle.geom.specs.LineLaws.{pointIn, flat-length, points-room, points-put}
+use Rattle.geom.specs.LineLaws.{flat-length, points-room, points-put}
 use Rattle.stroke.specs.Running.{pass, passesFrom, standing}
 use Rattle.stroke.specs.RunningLaws.{turned, place-below, pass-length, pass-next, standing-length, standing-kept, passes-length, passes-next}
 
@@ -28,17 +29,17 @@ module _ {d₀ d : List Float} {at : ℕ} (k n : ℕ) (back : Bool) (r : ℕ)
       let one = standing d₀ n in
       put-room d₀ (flat (pass one back)) k (omega (arith, flat-length (pass one back), pass-length one back, standing-length d₀ n has))
 
-  nextUp : Front d₀ d at (flat (pointIn (take (2 * n) d₀) (cond back (n - 1 - r) r) ∷ drop (r + 1) (turned (standing d₀ n) back))) (take k d₀ ++ flat (pass (standing d₀ n) back))
+  nextUp : Front d₀ d at (flat (cornerAt (take (2 * n) d₀) (2 * cond back (n - 1 - r) r) ∷ drop (r + 1) (turned (standing d₀ n) back))) (take k d₀ ++ flat (pass (standing d₀ n) back))
   nextUp = front-at (ap flat (pass-next d₀ n has back r more)) f
 
   pub pass-room : at + 2 ≤ length d
-  pass-room = omega (arith, points-room (pointIn (take (2 * n) d₀) (cond back (n - 1 - r) r) ∷ []) (drop (r + 1) (turned (standing d₀ n) back)) nextUp room)
+  pass-room = omega (arith, points-room (cornerAt (take (2 * n) d₀) (2 * cond back (n - 1 - r) r) ∷ []) (drop (r + 1) (turned (standing d₀ n) back)) nextUp room)
 
-  pub pass-step : (y : List Float) → y ≡ put d at (flat (pointIn d (cond back (n - 1 - r) r) ∷ [])) → Front d₀ y (at + 2) (flat (drop (r + 1) (turned (standing d₀ n) back))) (take k d₀ ++ flat (pass (standing d₀ n) back))
+  pub pass-step : (y : List Float) → y ≡ put d at (flat (cornerAt d (2 * cond back (n - 1 - r) r) ∷ [])) → Front d₀ y (at + 2) (flat (drop (r + 1) (turned (standing d₀ n) back))) (take k d₀ ++ flat (pass (standing d₀ n) back))
   pass-step y e =
       let j = cond back (n - 1 - r) r in
       let s = standing-kept d₀ n has (flat (pass (standing d₀ n) back)) k j f ge le (place-below back r n more) in
-      points-put (pointIn (take (2 * n) d₀) j ∷ []) (drop (r + 1) (turned (standing d₀ n) back)) nextUp room y (rw s at e)
+      points-put (cornerAt (take (2 * n) d₀) (2 * j) ∷ []) (drop (r + 1) (turned (standing d₀ n) back)) nextUp room y (rw s at e)
 
 -- pass t is next
 module _ {d₀ d : List Float} {at : ℕ} (n t p : ℕ)

@@ -14,7 +14,7 @@ use Rattle.seqs.specs.Reverse.{getD-reverse}
 use Rattle.geom.specs.declared.point.P.{P}
 use Rattle.geom.specs.Point.{point}
 use Rattle.geom.specs.Outline.{points}
-use Rattle.geom.specs.LineLaws.{pointIn, points-length, points-at}
+use Rattle.geom.specs.OutlineLaws.{cornerAt, points-length, points-at}
 use Rattle.stroke.specs.Running.{pass, passesFrom, standing}
 
 -- ---- one pass
@@ -44,20 +44,20 @@ module _ (d₀ : List Float) (n : ℕ) (has : 2 * n ≤ length d₀) where
   pub standing-length : length (standing d₀ n) ≡ n
   standing-length = omega (arith, points-length (take (2 * n) d₀), length-take-le (2 * n) d₀ has)
 
-  pub pass-next : (back : Bool) (r : ℕ) → r < n → drop r (turned (standing d₀ n) back) ≡ pointIn (take (2 * n) d₀) (cond back (n - 1 - r) r) ∷ drop (r + 1) (turned (standing d₀ n) back)
+  pub pass-next : (back : Bool) (r : ℕ) → r < n → drop r (turned (standing d₀ n) back) ≡ cornerAt (take (2 * n) d₀) (2 * cond back (n - 1 - r) r) ∷ drop (r + 1) (turned (standing d₀ n) back)
   pass-next back r h =
       let one = standing d₀ n in
-      let z = pointIn d₀ 0 in
+      let z = cornerAt d₀ 0 in
       let j = cond back (n - 1 - r) r in
       let e : getD (turned one back) r z ≡ getD one j z = turned-at one back r z (omega (arith, standing-length)) ∙ rw standing-length in
-      let f : getD one j z ≡ pointIn (take (2 * n) d₀) j = points-at (take (2 * n) d₀) j z (omega (arith, place-below back r n h, length-take-le (2 * n) d₀ has)) in
+      let f : getD one j z ≡ cornerAt (take (2 * n) d₀) (2 * j) = points-at (take (2 * n) d₀) j z (omega (arith, place-below back r n h, length-take-le (2 * n) d₀ has)) in
       next (turned one back) r z (omega (arith, turned-length one back, standing-length)) ∙ ap (λ (p : P). p ∷ drop (r + 1) (turned one back)) (e ∙ f)
 
   pub pass-none : (back : Bool) (r : ℕ) → n ≤ r → drop r (turned (standing d₀ n) back) ≡ []
   pass-none back r h = none (turned (standing d₀ n) back) r (omega (arith, turned-length (standing d₀ n) back, standing-length))
 
   -- a point of the first n is read as it stood, whatever is written behind them
-  pub standing-kept : {d : List Float} {at : ℕ} {rest : List Float} (x : List Float) (k j : ℕ) → Front d₀ d at rest (take k d₀ ++ x) → k ≤ at → 2 * n ≤ k → j < n → pointIn d j ≡ pointIn (take (2 * n) d₀) j
+  pub standing-kept : {d : List Float} {at : ℕ} {rest : List Float} (x : List Float) (k j : ℕ) → Front d₀ d at rest (take k d₀ ++ x) → k ≤ at → 2 * n ≤ k → j < n → cornerAt d (2 * j) ≡ cornerAt (take (2 * n) d₀) (2 * j)
   standing-kept x k j f ge le h =
       let a = front-kept x k (2 * n) (2 * j) nan f ge (omega arith) le in
       let b = front-kept x k (2 * n) (2 * j + 1) nan f ge (omega arith) le in

@@ -30,7 +30,7 @@ fn put_pass(out: &mut [f64], k: usize, n: usize, back: bool) -> usize
     let mut at = k;
     let mut r = 1;
     while r < n {
-        let p = corner(out, place(r, n, back));
+        let p = corner(out, 2 * place(r, n, back));
         put_point(out, at, p);
         at += 2;
         r += 1;

@@ -28,6 +28,9 @@ loop-holds c =
     let a = c .before .args in
     (search needs, search needs, front-from (a .out .now) (flat (pass (standing (a .out .now) (a .n)) (a .back))) (a .k) (omega (arith, c .before .pre)))
 
+mul-corner : tie.Need-mul-corner Inv-loop μ-loop
+mul-corner c = omega (arith, c .place .ensures, place-below (c .before .before .before .before .before .args .back) (c .before .before .before .loop .r) (c .before .before .before .before .before .args .n) (search needs), c .before .before .before .before .before .pre, c .before .before .before .loop .inv .2 .len)
+
 corner-requires : tie.Need-corner-requires Inv-loop μ-loop
 corner-requires c κs = omega (arith, c .place .ensures, place-below (c .before .before .before .before .before .args .back) (c .before .before .before .loop .r) (c .before .before .before .before .before .args .n) (search needs), c .before .before .before .before .before .pre, c .before .before .before .loop .inv .2 .len)
 
@@ -63,4 +66,4 @@ returns c =
 
 pub put-pass-spec : {M : Type 1} → statement M
 put-pass-spec =
-    tie.close (tie.spec Inv-loop μ-loop loop-holds (λ c κs. search needs) corner-requires put-point-requires add-at (λ c. search needs) (λ c. search needs) loop-again same-length returns)
+    tie.close (tie.spec Inv-loop μ-loop loop-holds (λ c κs. search needs) mul-corner corner-requires put-point-requires add-at (λ c. search needs) (λ c. search needs) loop-again same-length returns)
