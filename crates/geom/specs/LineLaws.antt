@@ -8,7 +8,7 @@ use lib.ListN.{length, drop, length-append}
 use lib.Ieee.{Float, binary64, ofBits, round}
 use Rattle.leaves.specs.Num.{_⊕_, _⊘_, real, literal, zero64}
 use Rattle.seqs.specs.Front.{Front, front-at, front-room-block, front-whole}
-use Rattle.seqs.specs.Put.{put, put-put}
+use Rattle.seqs.specs.Put.{put, put-then}
 use Rattle.geom.specs.declared.point.P.{P}
 use Rattle.geom.specs.Point.{dist, lerp}
 use Rattle.geom.specs.Outline.{points}
@@ -144,4 +144,4 @@ module _ (l : List Float) (len : Float) where
     pub line-put : (d d₁ y : List Float) (k : ℕ) → k + length (flat (resampleKeepCorners (points l) len)) ≤ length d → d₁ ≡ put d k (flat (cornerAt l 0 ∷ [])) → y ≡ put d₁ (k + 2) (flat (pieces (points l) len))
         → y ≡ put d k (flat (resampleKeepCorners (points l) len))
     unfolding flat
-    line-put d d₁ y k fits e g = (rw e at g) ∙ put-put d (flat (cornerAt l 0 ∷ [])) (flat (pieces (points l) len)) k (omega (arith, line-size)) ∙ rw line-flat
+    line-put d d₁ y k fits e g = put-then d d₁ y (flat (cornerAt l 0 ∷ [])) (flat (pieces (points l) len)) k (k + 2) (omega (arith, line-size)) e refl g ∙ rw line-flat

@@ -43,3 +43,6 @@ module _ {ℓ} {A : Type ℓ} where
       ∙ ap (λ (l : List A). drop (length b) l) (drop-at (take k d ++ a) (drop (length (take k d ++ a)) d) (length (take k d ++ a)) refl)
       ∙ drop-drop (length b) (length (take k d ++ a)) d in
       rw (t, q, u, ← q) (ap (λ (l : List A). l ++ drop (length l) d) (append-assoc (take k d) a b))
+
+  pub put-then : (d d₁ y a b : List A) (k n : ℕ) → k + length a ≤ length d → d₁ ≡ put d k a → n ≡ k + length a → y ≡ put d₁ n b → y ≡ put d k (a ++ b)
+  put-then d d₁ y a b k n h e f g = (rw (e, f) at g) ∙ put-put d a b k h

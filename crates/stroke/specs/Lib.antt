@@ -1,3 +1,4 @@
--- What the contracts of `stroke` cite (Running), and what is proved of it.
+-- What the contracts of `stroke` cite (Running, Closing), and what is proved of it.
 pub mod Running
 pub mod RunningLaws
+pub mod Closing

@@ -1,2 +1,3 @@
 // Running stitch: stroke.rs.
+pub mod one;
 pub mod passes;
