@@ -8,26 +8,27 @@ use lib.Ieee.{Float}
 use Rattle.seqs.specs.Front.{Front, front-at}
 use Rattle.seqs.specs.Put.{put, put-room}
 use Rattle.geom.specs.declared.point.P.{P}
+use Rattle.geom.specs.Steps.{along}
 use Rattle.geom.specs.Outline.{points}
 use Rattle.geom.specs.OutlineLaws.{cornerAt}
 use Rattle.geom.specs.Line.{flat, pieceSteps, stepsFrom, piece, piecesFrom, pieces}
-use Rattle.geom.specs.LineLaws.{points-room, points-put, steps-size, stepEnd, steps-next, piece-length, pieces-next}
+use Rattle.geom.specs.LineLaws.{points-room, points-put, steps-size, steps-next, piece-length, pieces-next}
 
 -- the end of step i of n is next
 module _ {d₀ d : List Float} {at : ℕ} (k : ℕ) (a b : P) (n i : ℕ)
     (f : Front d₀ d at (flat (stepsFrom a b n i (n + 1 - i))) (take k d₀ ++ flat (stepsFrom a b n 1 n)))
     (fits : k + 2 * n ≤ length d₀) (more : i ≤ n) where
-  endUp : Front d₀ d at (flat (stepEnd a b n i ∷ stepsFrom a b n (i + 1) (n + 1 - (i + 1)))) (take k d₀ ++ flat (stepsFrom a b n 1 n))
+  endUp : Front d₀ d at (flat (along a b n i ∷ stepsFrom a b n (i + 1) (n + 1 - (i + 1)))) (take k d₀ ++ flat (stepsFrom a b n 1 n))
   endUp = front-at (ap flat (steps-next a b n i more)) f
 
   room : length (take k d₀ ++ flat (stepsFrom a b n 1 n)) ≤ length d₀
   room = put-room d₀ (flat (stepsFrom a b n 1 n)) k (omega (arith, steps-size a b n 1 n))
 
   pub step-room : at + 2 ≤ length d
-  step-room = omega (arith, points-room (stepEnd a b n i ∷ []) (stepsFrom a b n (i + 1) (n + 1 - (i + 1))) endUp room)
+  step-room = omega (arith, points-room (along a b n i ∷ []) (stepsFrom a b n (i + 1) (n + 1 - (i + 1))) endUp room)
 
-  pub step-put : (y : List Float) → y ≡ put d at (flat (stepEnd a b n i ∷ [])) → Front d₀ y (at + 2) (flat (stepsFrom a b n (i + 1) (n + 1 - (i + 1)))) (take k d₀ ++ flat (stepsFrom a b n 1 n))
-  step-put y e = points-put (stepEnd a b n i ∷ []) (stepsFrom a b n (i + 1) (n + 1 - (i + 1))) endUp room y e
+  pub step-put : (y : List Float) → y ≡ put d at (flat (along a b n i ∷ [])) → Front d₀ y (at + 2) (flat (stepsFrom a b n (i + 1) (n + 1 - (i + 1)))) (take k d₀ ++ flat (stepsFrom a b n 1 n))
+  step-put y e = points-put (along a b n i ∷ []) (stepsFrom a b n (i + 1) (n + 1 - (i + 1))) endUp room y e
 
 -- the piece from p to corner i is next
 module _ {d₀ d : List Float} {at : ℕ} (k : ℕ) (l : List Float) (len : Float) (p : P) (i : ℕ)

@@ -1,6 +1,11 @@
--- What the contracts of `geom` cite (Point, Outline, Line), and what is proved of it.
+-- What the contracts of `geom` cite (Point, Outline, Winding, Steps, Inside, Line), and what is proved of it.
 pub mod Point
 pub mod Outline
-pub mod OutlineLaws
+pub mod Winding
+pub mod Steps
+pub mod Inside
 pub mod Line
+pub mod OutlineLaws
+pub mod WindingLaws
 pub mod LineLaws
+pub mod Ks

@@ -2,14 +2,12 @@
 use Prim.Native.Nat.{ℕ, zero, suc, _+_, _^_}
 use mathlib.Core.Bool.{cond}
 use mathlib.Core.List.{List, [], _∷_, _++_}
-use lib.IntN.{pos}
 use lib.ListN.{take}
-use lib.Ieee.{Float, lt, toUnsigned}
-use Rattle.leaves.specs.Num.{_⊕_, _⊘_, real, literal, zero64}
-use Rattle.leaves.specs.Whole.{ceil}
-use Rattle.leaves.specs.Order.{larger}
+use lib.Ieee.{Float, lt}
+use Rattle.leaves.specs.Num.{_⊕_, literal, zero64}
 use Rattle.geom.specs.declared.point.P.{P}
-use Rattle.geom.specs.Point.{one, dist, lerp}
+use Rattle.geom.specs.Point.{dist}
+use Rattle.geom.specs.Steps.{steps, along}
 
 -- points as numbers, x before y
 unfoldable pub flat : List P → List Float
@@ -33,17 +31,14 @@ polylineLength (p ∷ ps) = lengthFrom zero64 p ps
 unfoldable pub shortest : Float
 shortest = literal 1 (10 ^ 9)
 
--- the steps that a piece of length d is cut in
-unfoldable pub steps : Float → Float → ℕ
-steps d len = toUnsigned 64 (larger (ceil (d ⊘ len)) one)
-
+-- how many steps a piece is cut in: none where it is skipped
 unfoldable pub pieceSteps : P → P → Float → ℕ
 pieceSteps a b len = cond (lt (dist a b) shortest) 0 (steps (dist a b) len)
 
 -- the ends of the steps i, i + 1, .. of n, `left` of them
 unfoldable pub stepsFrom : P → P → ℕ → ℕ → ℕ → List P
 stepsFrom a b n i zero = []
-stepsFrom a b n i (suc left) = lerp a b (real (pos i) ⊘ real (pos n)) ∷ stepsFrom a b n (i + 1) left
+stepsFrom a b n i (suc left) = along a b n i ∷ stepsFrom a b n (i + 1) left
 
 unfoldable pub piece : P → P → Float → List P
 piece a b len = stepsFrom a b (pieceSteps a b len) 1 (pieceSteps a b len)

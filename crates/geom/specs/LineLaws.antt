@@ -3,14 +3,14 @@ use Prim.Native.Nat.{ℕ, zero, suc, _+_, _-_, _*_, _≤_, _<_}
 use native.Mathlib.Omega.{arith}
 use mathlib.Core.Path.{_≡_, refl, sym, ap, _∙_}
 use mathlib.Core.List.{List, [], _∷_, _++_}
-use lib.IntN.{pos}
 use lib.ListN.{length, drop, length-append}
 use lib.Ieee.{Float, binary64, ofBits, round}
-use Rattle.leaves.specs.Num.{_⊕_, _⊘_, real, literal, zero64}
+use Rattle.leaves.specs.Num.{_⊕_, literal, zero64}
 use Rattle.seqs.specs.Front.{Front, front-at, front-room-block, front-whole}
 use Rattle.seqs.specs.Put.{put, put-then}
 use Rattle.geom.specs.declared.point.P.{P}
-use Rattle.geom.specs.Point.{dist, lerp}
+use Rattle.geom.specs.Point.{dist}
+use Rattle.geom.specs.Steps.{along}
 use Rattle.geom.specs.Outline.{points}
 use Rattle.geom.specs.OutlineLaws.{cornerAt, points-next, points-end}
 use Rattle.geom.specs.Line.{shortest, flat, lengthFrom, polylineLength, pieceSteps, stepsFrom, piece, piecesFrom, pieces, resampleKeepCorners}
@@ -86,11 +86,7 @@ module _ (a b : P) (n : ℕ) where
   pub steps-size : (i left : ℕ) → length (flat (stepsFrom a b n i left)) ≡ 2 * left
   steps-size i left = flat-length (stepsFrom a b n i left) ∙ ap (λ (k : ℕ). 2 * k) (steps-length i left)
 
-  -- the end of step i
-  abbrev pub stepEnd : ℕ → P
-  stepEnd i = lerp a b (real (pos i) ⊘ real (pos n))
-
-  pub steps-next : (i : ℕ) → i ≤ n → stepsFrom a b n i (n + 1 - i) ≡ stepEnd i ∷ stepsFrom a b n (i + 1) (n + 1 - (i + 1))
+  pub steps-next : (i : ℕ) → i ≤ n → stepsFrom a b n i (n + 1 - i) ≡ along a b n i ∷ stepsFrom a b n (i + 1) (n + 1 - (i + 1))
   unfolding stepsFrom
   steps-next i h = let e : n + 1 - i ≡ suc (n + 1 - (i + 1)) = omega arith in rw e
 

@@ -7,12 +7,10 @@ ghost use Rattle.seqs.specs.Put.{put};
 ghost use Rattle.seqs.specs.Capped.{capped};
 ghost use Rattle.geom.specs.Outline.{points};
 ghost use Rattle.geom.specs.OutlineLaws.{cornerAt};
-ghost use Rattle.geom.specs.Line.{flat, polylineLength, steps, pieceSteps, stepsFrom, pieces, resampleKeepCorners};
+ghost use Rattle.geom.specs.Line.{flat, polylineLength, pieceSteps, stepsFrom, pieces, resampleKeepCorners};
 use crate::point::P;
-use leaves::ceil;
-use leaves::larger;
-use leaves::of_u64;
-use leaves::to_u64;
+use crate::steps::along;
+use crate::steps::steps;
 
 // The corner at place i.
 pub fn corner(s: &[f64], i: usize) -> P
@@ -41,12 +39,6 @@ pub fn polyline_length(line: &[f64]) -> f64
         i += 2;
     }
     sum
-}
-
-fn steps(d: f64, len: f64) -> u64
-    ensures { λ r. ⌜ r ≡ steps d len ⌝ }
-{
-    to_u64(larger(ceil(d / len), 1.0))
 }
 
 // How many stitches lead from a to b: none where the piece is skipped.
@@ -108,11 +100,10 @@ pub fn put_piece(out: &mut [f64], k: usize, a: P, b: P, n: u64) -> usize
     requires { ⌜ k + 2 * n ≤ length (now out) ⌝ }
     ensures { λ r. ⌜ (now (out .exit) ≡ put (now (out .entry)) k (flat (stepsFrom a b n 1 n))) × (r ≡ k + 2 * n) ⌝ }
 {
-    let whole = of_u64(n);
     let mut at = k;
     let mut i: u64 = 1;
     while i <= n {
-        put_point(out, at, a.lerp(b, of_u64(i) / whole));
+        put_point(out, at, along(a, b, n, i));
         at += 2;
         i += 1;
     }

@@ -14,40 +14,40 @@ use Rattle.geom.proofs.line.put_piece.Statement.{statement}
 use Rattle.geom.proofs.line.put_piece.Tie as tie
 
 abbrev Inv-loop : tie.InvT-loop
-Inv-loop out₀ k a b n whole at₀ i₀ out at i = (1 ≤ i) × (i ≤ n + 1) × (at + 2 ≡ k + 2 * i) × Front out₀ out at (flat (stepsFrom a b n i (n + 1 - i))) (take k out₀ ++ flat (stepsFrom a b n 1 n))
+Inv-loop out₀ k a b n at₀ i₀ out at i = (1 ≤ i) × (i ≤ n + 1) × (at + 2 ≡ k + 2 * i) × Front out₀ out at (flat (stepsFrom a b n i (n + 1 - i))) (take k out₀ ++ flat (stepsFrom a b n 1 n))
 
 abbrev μ-loop : tie.MeasureT-loop
-μ-loop out₀ k a b n whole at₀ i₀ out at i = n + 1 - i
+μ-loop out₀ k a b n at₀ i₀ out at i = n + 1 - i
 
 loop-holds : tie.Need-loop-holds Inv-loop μ-loop
 loop-holds c =
-    let a = c .before .before .args in
+    let a = c .before .args in
     let e : a .n + 1 - 1 ≡ a .n = omega arith in
-    (search needs, search needs, refl, rw e (front-from _ _ (a .k) (omega (arith, c .before .before .pre))))
+    (search needs, search needs, refl, rw e (front-from _ _ (a .k) (omega (arith, c .before .pre))))
 
 put-point-requires : tie.Need-put-point-requires Inv-loop μ-loop
 put-point-requires c κs =
-    let a = c .before .before .before .before .before .before .before .args in
-    let l = c .before .before .before .before .loop in
-    omega (arith, step-room (a .k) (a .a) (a .b) (a .n) (l .i) (l .inv .3) (c .before .before .before .before .before .before .before .pre) (search needs))
+    let a = c .before .before .before .before .before .args in
+    let l = c .before .before .before .loop in
+    omega (arith, step-room (a .k) (a .a) (a .b) (a .n) (l .i) (l .inv .3) (c .before .before .before .before .before .pre) (search needs))
 
 loop-again : tie.Need-loop-again Inv-loop μ-loop
 loop-again c =
-    let a = c .before .before .before .before .before .before .before .before .before .before .args in
-    let l = c .before .before .before .before .before .before .before .loop in
-    let e = rw (c .before .before .before .lerp .ensures, c .before .before .before .before .of-u642 .ensures, c .before .before .before .before .before .before .before .before .of-u64 .ensures) at (c .before .before .put-point .ensures) in
-    (search needs, search needs, omega arith, step-put (a .k) (a .a) (a .b) (a .n) (l .i) (l .inv .3) (c .before .before .before .before .before .before .before .before .before .before .pre) (search needs) _ e)
+    let a = c .before .before .before .before .before .before .before .before .args in
+    let l = c .before .before .before .before .before .before .loop in
+    let e = rw (c .before .before .before .along .ensures) at (c .before .before .put-point .ensures) in
+    (search needs, search needs, omega arith, step-put (a .k) (a .a) (a .b) (a .n) (l .i) (l .inv .3) (c .before .before .before .before .before .before .before .before .pre) (search needs) _ e)
 
 same-length : tie.Need-same-length Inv-loop μ-loop
 same-length c = c .before .loop .inv .3 .len
 
 returns : tie.Need-returns Inv-loop μ-loop
 returns c =
-    let a = c .before .before .before .before .args in
+    let a = c .before .before .before .args in
     let l = c .before .loop in
-    let f = put-end (flat (stepsFrom (a .a) (a .b) (a .n) 1 (a .n))) (a .k) (flat-none (steps-none (a .a) (a .b) (a .n) (l .i) (search needs))) (omega (arith, c .before .before .before .before .pre)) (l .inv .3) in
+    let f = put-end (flat (stepsFrom (a .a) (a .b) (a .n) 1 (a .n))) (a .k) (flat-none (steps-none (a .a) (a .b) (a .n) (l .i) (search needs))) (omega (arith, c .before .before .before .pre)) (l .inv .3) in
     (f .0, omega (arith, f .1, steps-size (a .a) (a .b) (a .n) 1 (a .n)))
 
 pub put-piece-spec : {M : Type 1} → statement M
 put-piece-spec =
-    tie.close (tie.spec Inv-loop μ-loop (λ c κs. search needs) loop-holds (λ c κs. search needs) (λ c κs. search needs) put-point-requires (λ c. search needs) (λ c. search needs) (λ c. search needs) loop-again same-length returns)
+    tie.close (tie.spec Inv-loop μ-loop loop-holds (λ c κs. search needs) put-point-requires (λ c. search needs) (λ c. search needs) (λ c. search needs) loop-again same-length returns)
