@@ -49,7 +49,11 @@ pub fn count_one(line: &[f64], closed: bool, len: f64, room: u64) -> u64
     requires { ⌜ room < 2 ^ 63 ⌝ }
     ensures { λ r. ⌜ r ≡ capped room (length (resampleKeepCorners (base (points (now (line .entry))) closed) len)) ⌝ }
 {
-    add_within(count_line(line, len, room), closing_steps(line, closed, len), room)
+    add_within(
+        count_line(line, len, room),
+        closing_steps(line, closed, len),
+        room,
+    )
 }
 
 // One pass, to the front of out.
