@@ -1,11 +1,13 @@
--- What the contracts of `geom` cite (Point, Outline, Winding, Steps, Inside, Line), and what is proved of it.
+-- What the contracts of `geom` cite (Point, Outline, Winding, Steps, Inside, Line, Limits), and what is proved of it.
 pub mod Point
 pub mod Outline
 pub mod Winding
 pub mod Steps
 pub mod Inside
 pub mod Line
+pub mod Limits
 pub mod OutlineLaws
 pub mod WindingLaws
 pub mod LineLaws
+pub mod LimitsLaws
 pub mod Ks

@@ -1,5 +1,6 @@
 // Points, outlines, winding and lines: geom.rs. The cores take every f64, NaN and infinities too.
 pub mod inside;
+pub mod limits;
 pub mod line;
 pub mod point;
 pub mod rule;
