@@ -1,23 +1,16 @@
--- What a call that sews says, and what its output holds afterwards. Definitions only.
-use Prim.Native.Nat.{ℕ, zero, suc}
+-- What a call that sews says, and what its output holds afterwards, by the number of its refusal. Definitions only.
+use Prim.Native.Nat.{ℕ}
 use mathlib.Core.Bool.{cond}
 use mathlib.Core.List.{List, _++_}
-use lib.Dec.{leb}
+use lib.Dec.{eqb}
 use lib.ListN.{length, drop}
-use Rattle.refusal.specs.Refusal.{DONE, ROOM}
+use Rattle.refusal.specs.Refusal.{DONE}
 use Rattle.refusal.specs.declared.Sewn.{Sewn}
 
--- ROOM comes last: where none before it applies, and the output that is defined exceeds the room
-unfoldable pub orRoom : ℕ → ℕ → ℕ → ℕ
-orRoom zero need room = cond (leb need room) DONE ROOM
-orRoom (suc number) need room = suc number
-
--- a refusal sews nothing
-unfoldable pub sewn : ℕ → ℕ → Sewn
-sewn zero points = record { answer = DONE; points = points }
-sewn (suc number) points = record { answer = suc number; points = 0 }
+-- how many points were sewn: a refusal sews none
+abbrev pub sewn : ℕ → ℕ → Sewn
+sewn n points = cond (eqb n DONE) (record { answer = DONE; points = points }) (record { answer = n; points = 0 })
 
 -- the answer at the front, and the rest as it was; after a refusal all as it was
-unfoldable pub output : {A : Type 0} → ℕ → List A → List A → List A
-output zero answer out = answer ++ drop (length answer) out
-output (suc number) answer out = out
+abbrev pub output : {A : Type 0} → ℕ → List A → List A → List A
+output n answer out = cond (eqb n DONE) (answer ++ drop (length answer) out) out
