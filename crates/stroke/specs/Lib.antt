@@ -1,4 +1,5 @@
--- What the contracts of `stroke` cite (Running, Closing), and what is proved of it.
+-- What the contracts of `stroke` cite (Running, RunningAnswers, Closing), and what is proved of it.
 pub mod Running
-pub mod RunningLaws
+pub mod RunningAnswers
 pub mod Closing
+pub mod RunningLaws

@@ -7,15 +7,17 @@ use mathlib.Core.Bool.{Bool, true, false, cond}
 use mathlib.Core.List.{List, [], _∷_, _++_, reverse}
 use lib.Dec.{eqb}
 use lib.ListN.{length, take, drop, getD, length-append, length-drop, length-reverse}
-use lib.Seq.{length-take-le}
+use lib.Seq.{length-take-le, take-at}
 use lib.Ieee.{Float, nan}
 use Rattle.seqs.specs.Front.{Front, front-kept, next, none}
+use Rattle.seqs.specs.Put.{put, put-length, put-then}
 use Rattle.seqs.specs.Reverse.{getD-reverse}
 use Rattle.geom.specs.declared.point.P.{P}
-use Rattle.geom.specs.Point.{point}
 use Rattle.geom.specs.Outline.{points}
 use Rattle.geom.specs.OutlineLaws.{cornerAt, points-length, points-at}
-use Rattle.stroke.specs.Running.{pass, passesFrom, standing}
+use Rattle.geom.specs.Line.{flat, resampleKeepCorners}
+use Rattle.geom.specs.LineLaws.{flat-length, flat-append, points-flat}
+use Rattle.stroke.specs.Running.{base, pass, passesFrom, running, standing}
 
 -- ---- one pass
 
@@ -80,3 +82,37 @@ module _ (one : List P) where
   pub passes-none : (t p : ℕ) → p ≤ t → passesFrom one t (p - t) ≡ []
   unfolding passesFrom
   passes-none t p h = let e : p - t ≡ 0 = omega arith in rw e
+
+-- ---- the whole
+
+module _ (line : List P) (closed : Bool) (len : Float) (passes : ℕ) where
+  abbrev pub onePass : List P
+  onePass = resampleKeepCorners (base line closed) len
+
+  pub running-length : length (running line closed len passes) ≡ length onePass + (passes - 1) * (length onePass - 1)
+  unfolding running
+  running-length = length-append onePass (passesFrom onePass 1 (passes - 1)) ∙ ap (λ (k : ℕ). length onePass + k) (passes-length onePass 1 (passes - 1))
+
+  pub running-flat : flat (running line closed len passes) ≡ flat onePass ++ flat (passesFrom onePass 1 (passes - 1))
+  unfolding running
+  running-flat = flat-append onePass (passesFrom onePass 1 (passes - 1))
+
+  -- the first pass stands at the front of d₁: the others go over it
+  module _ (d d₁ : List Float) (n : ℕ) (e : d₁ ≡ put d 0 (flat onePass)) (f : n ≡ length onePass) where
+    pub standing-one : standing d₁ n ≡ onePass
+    standing-one =
+        let m = flat onePass in
+        let h : length m ≡ 2 * n = flat-length onePass ∙ rw f in
+        rw e (ap points (take-at m (drop (length m) d) (2 * n) h) ∙ points-flat onePass)
+
+    module _ (fits : length (flat (running line closed len passes)) ≤ length d) where
+      sizes : 2 * n + length (flat (passesFrom onePass 1 (passes - 1))) ≤ length d
+      sizes = omega (arith, f, flat-length onePass, ap length running-flat ∙ length-append (flat onePass) (flat (passesFrom onePass 1 (passes - 1))))
+
+      pub passes-room : 2 * n + length (flat (passesFrom (standing d₁ n) 1 (passes - 1))) ≤ length d₁
+      passes-room = rw standing-one (omega (arith, sizes, ap length e ∙ put-length d (flat onePass) 0 (omega (arith, sizes, f, flat-length onePass))))
+
+      pub running-put : (y : List Float) → y ≡ put d₁ (2 * n) (flat (passesFrom (standing d₁ n) 1 (passes - 1))) → y ≡ put d 0 (flat (running line closed len passes))
+      running-put y g =
+          rw running-flat
+          (put-then d d₁ y (flat onePass) (flat (passesFrom onePass 1 (passes - 1))) 0 (2 * n) (omega (arith, sizes, f, flat-length onePass)) e (omega (arith, f, flat-length onePass)) (rw standing-one at g))
