@@ -1,4 +1,4 @@
--- What the contracts of `geom` cite (Point, Outline, Winding, Steps, Inside, Line, Limits, LineAnswers), and what is proved of it.
+-- What the contracts of `geom` cite (Point, Outline, Winding, Steps, Inside, Line, Limits, Answers, LineAnswers), and what is proved of it.
 pub mod Point
 pub mod Outline
 pub mod Winding
@@ -6,6 +6,7 @@ pub mod Steps
 pub mod Inside
 pub mod Line
 pub mod Limits
+pub mod Answers
 pub mod LineAnswers
 pub mod OutlineLaws
 pub mod WindingLaws
