@@ -3,3 +3,4 @@ pub mod Running
 pub mod RunningAnswers
 pub mod Closing
 pub mod RunningLaws
+pub mod Ks
