@@ -44,10 +44,10 @@ pub fn put_passes(out: &mut [f64], n: usize, passes: u64)
     ensures { λ _. ⌜ now (out .exit) ≡ put (now (out .entry)) (2 * n) (flat (passesFrom (standing (now (out .entry)) n) 1 (passes - 1))) ⌝ }
 {
     let mut at = 2 * n;
-    let mut t: u64 = 1;
-    while t < passes {
-        at = put_pass(out, at, n, t % 2 == 1);
-        t += 1;
+    let mut pass: u64 = 1;
+    while pass < passes {
+        at = put_pass(out, at, n, pass % 2 == 1);
+        pass += 1;
     }
 }
 

@@ -16,10 +16,10 @@ use Rattle.stroke.proofs.passes.put_passes.Statement.{statement}
 use Rattle.stroke.proofs.passes.put_passes.Tie as tie
 
 abbrev Inv-loop : tie.InvT-loop
-Inv-loop out₀ n passes at₀ t₀ out at t = (2 * n ≤ at) × Front out₀ out at (flat (passesFrom (standing out₀ n) t (passes - t))) (take (2 * n) out₀ ++ flat (passesFrom (standing out₀ n) 1 (passes - 1)))
+Inv-loop out₀ n passes at₀ pass₀ out at pass = (2 * n ≤ at) × Front out₀ out at (flat (passesFrom (standing out₀ n) pass (passes - pass))) (take (2 * n) out₀ ++ flat (passesFrom (standing out₀ n) 1 (passes - 1)))
 
 abbrev μ-loop : tie.MeasureT-loop
-μ-loop out₀ n passes at₀ t₀ out at t = passes - t
+μ-loop out₀ n passes at₀ pass₀ out at pass = passes - pass
 
 loop-holds : tie.Need-loop-holds Inv-loop μ-loop
 loop-holds c =
@@ -30,13 +30,13 @@ put-pass-requires : tie.Need-put-pass-requires Inv-loop μ-loop
 put-pass-requires c κs =
     let a = c .before .before .before .before .args in
     let l = c .before .before .loop in
-    (l .inv .0, run-room (a .n) (l .t) (a .passes) (l .inv .1) (c .before .before .before .before .pre) (l .inv .0) (search needs))
+    (l .inv .0, run-room (a .n) (l .pass) (a .passes) (l .inv .1) (c .before .before .before .before .pre) (l .inv .0) (search needs))
 
 loop-again : tie.Need-loop-again Inv-loop μ-loop
 loop-again c =
     let a = c .before .before .before .before .before .before .before .args in
     let l = c .before .before .before .before .before .loop in
-    (omega (arith, l .inv .0, c .before .before .put-pass .ensures .1), rw (c .before .before .put-pass .ensures .1) (run-step (a .n) (l .t) (a .passes) (l .inv .1) (c .before .before .before .before .before .before .before .pre) (l .inv .0) (search needs) _ (c .before .before .put-pass .ensures .0)))
+    (omega (arith, l .inv .0, c .before .before .put-pass .ensures .1), rw (c .before .before .put-pass .ensures .1) (run-step (a .n) (l .pass) (a .passes) (l .inv .1) (c .before .before .before .before .before .before .before .pre) (l .inv .0) (search needs) _ (c .before .before .put-pass .ensures .0)))
 
 same-length : tie.Need-same-length Inv-loop μ-loop
 same-length c = c .before .loop .inv .1 .len
@@ -46,7 +46,7 @@ returns c =
     let a = c .before .before .before .args in
     let l = c .before .loop in
     let one = standing (a .out .now) (a .n) in
-    put-end (flat (passesFrom one 1 (a .passes - 1))) (2 * a .n) (flat-none (passes-none one (l .t) (a .passes) (search needs))) (omega (arith, c .before .before .before .pre)) (l .inv .1) .0
+    put-end (flat (passesFrom one 1 (a .passes - 1))) (2 * a .n) (flat-none (passes-none one (l .pass) (a .passes) (search needs))) (omega (arith, c .before .before .before .pre)) (l .inv .1) .0
 
 pub put-passes-spec : {M : Type 1} → statement M
 put-passes-spec =
