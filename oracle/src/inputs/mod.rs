@@ -1,0 +1,3 @@
+//! What the calls are made of.
+
+pub mod numbers;
