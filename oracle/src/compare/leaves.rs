@@ -1,14 +1,12 @@
 //! Number leaves: Rust's own library on the one side, `leaves` on the other.
 
-use super::{Answered, Function};
+use super::{Answered, Function, UNTOUCHED, no_tie};
+use crate::expect::{DONE, NUMBER};
 use crate::inputs::numbers;
-use crate::ours::{self, DONE, NUMBER};
+use crate::ours;
 use crate::rng::Rng;
 use std::cmp::Ordering;
 use std::collections::BTreeSet;
-
-/// Stands where a value is lent: it must still stand there after a refusal.
-const UNTOUCHED: u64 = 0x1234_5678_9abc_def0;
 
 const UNLIKE_ZEROS: &str = "zeros of unlike sign";
 const NAN_PLACE: &str = "NaN has no place in the order";
@@ -40,10 +38,6 @@ pub fn functions() -> Vec<Function> {
 
 fn unlike_zeros(a: f64, b: f64) -> bool {
     a == 0.0 && b == 0.0 && a.to_bits() != b.to_bits()
-}
-
-fn no_tie<I, T>(_: &I) -> super::Tie<T> {
-    None
 }
 
 fn plain_pair(rng: &mut Rng) -> (f64, f64) {

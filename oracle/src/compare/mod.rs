@@ -2,7 +2,11 @@
 //! report differences, one way to time. A group is a file with a list of
 //! functions; see README.md for how to add one.
 
+#[cfg(feature = "geom")]
+pub mod geom;
 pub mod leaves;
+#[cfg(feature = "stroke")]
+pub mod stroke;
 
 use crate::rng::Rng;
 use std::collections::{BTreeMap, BinaryHeap};
@@ -46,6 +50,14 @@ pub struct Function {
 
 /// A named tie: the calls that the Rust leaves open, and what document 01 says there.
 pub type Tie<T> = Option<(&'static str, T)>;
+
+pub fn no_tie<I, T>(_: &I) -> Tie<T> {
+    None
+}
+
+/// Stands where a value or a slice is lent: it must still stand there where
+/// the call owes no change.
+pub const UNTOUCHED: u64 = 0x1234_5678_9abc_def0;
 
 impl Function {
     /// `make` gives the operands of a call by its number, `tie` tells the named ties.
@@ -339,6 +351,58 @@ impl<T: Outcome> Outcome for Answered<T> {
     }
 }
 
+#[cfg(feature = "geom")]
+impl<const N: usize> Operands for [f64; N] {
+    fn size(&self) -> (usize, u64) {
+        (0, self.iter().copied().map(simplicity).sum())
+    }
+    fn show(&self) -> String {
+        list(self)
+    }
+}
+
+#[cfg(feature = "geom")]
+impl Outcome for [f64; 2] {
+    fn same(&self, other: &Self) -> bool {
+        self[0].same(&other[0]) && self[1].same(&other[1])
+    }
+    fn show(&self) -> String {
+        list(self)
+    }
+}
+
+#[cfg(feature = "geom")]
+pub fn list(numbers: &[f64]) -> String {
+    let all: Vec<String> = numbers.iter().copied().map(hex).collect();
+    format!("[{}]", all.join(" "))
+}
+
+/// A call that answers document 01's number and a count, and writes points to a
+/// lent slice: the whole slice counts, before and after the points.
+#[cfg(feature = "geom")]
+pub struct Written {
+    pub answer: u64,
+    pub count: u64,
+    pub out: Vec<f64>,
+}
+
+#[cfg(feature = "geom")]
+impl Outcome for Written {
+    fn same(&self, other: &Self) -> bool {
+        self.answer == other.answer
+            && self.count == other.count
+            && self.out.len() == other.out.len()
+            && self.out.iter().zip(&other.out).all(|(a, b)| a.same(b))
+    }
+    fn show(&self) -> String {
+        let (answer, count) = (self.answer, self.count);
+        format!("answer {answer} count {count} out {}", list(&self.out))
+    }
+    fn answer(&self) -> Option<u64> {
+        Some(self.answer)
+    }
+}
+
 /// A group's name, its functions, and its replay list if it has one.
 pub struct Group {
     pub name: &'static str,
@@ -347,9 +411,23 @@ pub struct Group {
 }
 
 pub fn groups() -> Vec<Group> {
-    vec![Group {
-        name: "leaves",
-        functions: leaves::functions(),
-        replay: Some(leaves::replay),
-    }]
+    vec![
+        Group {
+            name: "leaves",
+            functions: leaves::functions(),
+            replay: Some(leaves::replay),
+        },
+        #[cfg(feature = "geom")]
+        Group {
+            name: "geom",
+            functions: geom::functions(),
+            replay: None,
+        },
+        #[cfg(feature = "stroke")]
+        Group {
+            name: "stroke",
+            functions: stroke::functions(),
+            replay: None,
+        },
+    ]
 }

@@ -181,3 +181,88 @@ pub fn plain(rng: &mut Rng) -> f64 {
     let unit = (rng.next() >> 11) as f64 / (1u64 << 53) as f64;
     (unit - 0.5) * 200_000.0
 }
+
+#[cfg(feature = "geom")]
+pub use coordinates::*;
+
+#[cfg(feature = "geom")]
+mod coordinates {
+    use super::*;
+    use crate::expect::SIZE_LIMIT;
+    use std::ops::RangeInclusive;
+
+    /// A coordinate that document 01 accepts, of the kinds that go wrong.
+    pub fn coordinate(rng: &mut Rng) -> f64 {
+        let x = match rng.below(10) {
+            0 | 1 => rng.range(0, 20) as f64,
+            2 | 3 => rng.range(0, 10_000) as f64 / 10.0,
+            4 => rng.range(0, 400) as f64 / 2.0,
+            5 => plain(rng).abs(),
+            6 => beside(rng.range(1, 100) as f64 / 2.0, rng.range(-2, 2)),
+            7 => rng.pick(&[0.0, 0.0, 5e-324, 2.3e-308, 1e-12, 1e-9]),
+            8 => beside(SIZE_LIMIT, -rng.range(0, 1)),
+            _ => plain(rng).abs() * 2f64.powi(-rng.range(0, 60) as i32),
+        };
+        if rng.one_in(2) { x } else { -x }
+    }
+
+    /// A coordinate that document 01 turns away.
+    pub fn bad_coordinate(rng: &mut Rng) -> f64 {
+        let over = beside(SIZE_LIMIT, 1);
+        let x = rng.pick(&[f64::NAN, f64::INFINITY, over, over, 1e300, f64::MAX]);
+        if rng.one_in(2) { x } else { -x }
+    }
+
+    /// Coordinates, one set in so many spoilt.
+    pub fn spoil(rng: &mut Rng, list: &mut [f64], one_in: u64) {
+        if !list.is_empty() && rng.one_in(one_in) {
+            let at = rng.index(list.len());
+            list[at] = bad_coordinate(rng);
+        }
+    }
+
+    /// A setting in the middle of its range, at its ends, or just outside.
+    pub fn setting(rng: &mut Rng, range: RangeInclusive<f64>) -> f64 {
+        let (lo, hi) = (*range.start(), *range.end());
+        match rng.below(16) {
+            0 => lo,
+            1 => hi,
+            2 => beside(lo, rng.range(-1, 1)),
+            3 => beside(hi, rng.range(-1, 1)),
+            4 if rng.one_in(2) => rng.pick(&[0.0, -0.0, -lo, -hi, f64::NAN, f64::INFINITY]),
+            5..=9 => rng.range(lo.ceil() as i64, 60) as f64,
+            _ => lo + (plain(rng).abs() / 100_000.0) * 50.0,
+        }
+    }
+
+    /// Cosine and sine: true ones, the tilted quarter turns that an angle in
+    /// f64 gives, and both sides of what TURN lets through.
+    pub fn turn(rng: &mut Rng) -> (f64, f64) {
+        let quarter = std::f64::consts::FRAC_PI_2;
+        let angle = match rng.below(3) {
+            0 => quarter * rng.range(-4, 4) as f64,
+            1 => (rng.range(-720, 720) as f64 / 2.0).to_radians(),
+            _ => plain(rng) / 10_000.0,
+        };
+        let (s, c) = angle.sin_cos();
+        match rng.below(16) {
+            0 => rng.pick(&[(1.0, 0.0), (0.0, 1.0), (-1.0, -0.0), (0.0, -1.0)]),
+            1 => {
+                // The squares' sum at a limit of TURN, give or take an ulp: with
+                // a sine beside the cosine, the limit itself is met too.
+                let limit = rng.pick(&[0.999999f64, 1.000001]);
+                let c = 0.1 + plain(rng).abs() / 125_000.0;
+                (c, beside((limit - c * c).sqrt(), rng.range(-2, 2)))
+            }
+            2 => {
+                let size = rng.pick(&[0.9999994, 0.9999996, 1.0000004, 1.0000006, 0.5, 0.0]);
+                (c * size, s * size)
+            }
+            3 if rng.one_in(2) => {
+                let odd = rng.pick(&[f64::NAN, f64::INFINITY, f64::NEG_INFINITY, f64::MAX]);
+                rng.pick(&[(odd, s), (c, odd)])
+            }
+            _ => (c, s),
+        }
+    }
+}
