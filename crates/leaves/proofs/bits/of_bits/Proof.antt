@@ -1,6 +1,6 @@
 -- A NaN's pattern is the one above infinity's, the sign taken off.
 use mathlib.Core.Path.{_≡_, refl, sym, subst, _∙_}
-use mathlib.Core.Bool.{Bool, true, false, not, true≢false}
+use mathlib.Core.Bool.{Bool, true, not, true≢false}
 use Prim.Native.Nat.{ℕ, _%_, _^_, _*_, _<_}
 use lib.Dec.{T}
 use lib.Ieee.{Float, nan, inf, fin, binary64, isNan, ofBits, div}

@@ -1,5 +1,4 @@
 use mathlib.Core.Path.{_≡_, refl, sym, subst}
-use Prim.Native.Nat.{ℕ}
 use lib.Ieee.{Float, binary64, toBits}
 use Rattle.leaves.proofs.Total.{is-nan, not-nan}
 use borrow.Author.Needs.{needs}
