@@ -1,7 +1,7 @@
 -- Laws of `upto`, and a list parted by a number of each element. Assumes nothing.
-use mathlib.Core.Path.{_≡_, refl, sym, ap, _∙_}
+use mathlib.Core.Path.{_≡_, refl, ap, _∙_}
 use mathlib.Core.Bool.{Bool, true, false}
-use mathlib.Core.Logic.{_⊎_, inl, inr}
+use mathlib.Core.Logic.{inl, inr}
 use mathlib.Core.List.{List, [], _∷_, _++_, List·Permᴰ, List·Permᴰ·nil, List·Permᴰ·cons, List·Permᴰ·trans, Permᴰ·refl, Permᴰ·middle, Permᴰ·append-left}
 use Prim.Native.Nat.{ℕ, zero, suc, _+_, _-_, _≤_, _<_}
 use native.Mathlib.Omega.{arith}
@@ -55,14 +55,11 @@ module _ {ℓ} {A : Type ℓ} where
 
   placed : (f : ℕ → List A) (a : A) (t i n : ℕ) → i ≤ t → t < i + n → List·Permᴰ (each (λ s. keepIf (eqb t s) a (f s)) (upto i n)) (a ∷ each f (upto i n))
   placed f a t i zero h k = absurd (omega arith)
-  placed f a t i (suc n) h k = go (either (eqb t i)) (placed f a t (i + 1) n)
-    where
-      go : (eqb t i ≡ true) ⊎ (eqb t i ≡ false) → (i + 1 ≤ t → t < i + 1 + n → List·Permᴰ (each (λ s. keepIf (eqb t s) a (f s)) (upto (i + 1) n)) (a ∷ each f (upto (i + 1) n)))
-          → List·Permᴰ (each (λ s. keepIf (eqb t s) a (f s)) (upto i (suc n))) (a ∷ each f (upto i (suc n)))
-      go (inl e) ih = let z = eqb-true t i e in rw (e, elsewhere f a t (i + 1) n (omega arith)) (Permᴰ·refl (a ∷ (f i ++ each f (upto (i + 1) n))))
-      go (inr e) ih =
-          let l : i + 1 ≤ t = omega (arith, eqb-false t i e) in
-          rw e (List·Permᴰ·trans (Permᴰ·append-left (f i) (ih l (omega arith))) (Permᴰ·middle a (f i) (each f (upto (i + 1) n))))
+  placed f a t i (suc n) h k = elim (either (eqb t i)) [
+    | inl e ↦ let z = eqb-true t i e in rw (e, elsewhere f a t (i + 1) n (omega arith)) (Permᴰ·refl (a ∷ (f i ++ each f (upto (i + 1) n))))
+    | inr e ↦ let l : i + 1 ≤ t = omega (arith, eqb-false t i e) in
+        rw e (List·Permᴰ·trans (Permᴰ·append-left (f i) (placed f a t (i + 1) n l (omega arith))) (Permᴰ·middle a (f i) (each f (upto (i + 1) n))))
+  ]
 
   empty : (i n : ℕ) → each {B = A} (λ s. []) (upto i n) ≡ []
   empty i zero = refl
