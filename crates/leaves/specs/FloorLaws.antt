@@ -181,3 +181,10 @@ le-ceil (fin false m e) f h =
     rounded-le (own-rounded (fin false m e) tt f) (whole-rounded true false m e) (down-pos e) (lit< tt) (omega (arith, part-away (m * up e) (down e) (down-pos e) .0))
 le-ceil (fin true m e) f h =
     rounded-le (own-rounded (fin true m e) tt f) (whole-rounded false true m e) (down-pos e) (lit< tt) (omega (arith, part-toward (m * up e) (down e) (down-pos e) .0))
+
+-- the greatest whole number up to x, and the least from x on
+pub whole-le-floor : (v x : Float) → T (fits binary64 v) → T (finite v) → unitsOf v % 2 ^ 1074 ≡ 0 → T (le v x) → T (le v (floor x))
+whole-le-floor v x f g w h = subst (λ (r : Float). T (le r (floor x))) (floor-whole v f g w) (floor-mono v x h)
+
+pub ceil-le-whole : (x v : Float) → T (fits binary64 v) → T (finite v) → unitsOf v % 2 ^ 1074 ≡ 0 → T (le x v) → T (le (ceil x) v)
+ceil-le-whole x v f g w h = subst (λ (r : Float). T (le (ceil x) r)) (ceil-whole v f g w) (ceil-mono x v h)

@@ -18,6 +18,9 @@ pub mod FloorLaws
 pub mod Bounds
 pub mod RootBounds
 pub mod CastLaws
+pub mod Commute
+pub mod Squares
+pub mod Ieee754
 pub mod RootLaws
 pub mod Encode
 pub mod Decode
