@@ -1,16 +1,16 @@
 -- A whole number of small size goes to an integer and back without loss: so do floor and ceiling of what is small.
-use mathlib.Core.Path.{_≡_, refl, sym, ap, _∙_, subst}
-use mathlib.Core.Bool.{Bool, true, false, not, _&&_, _||_, cond}
+use mathlib.Core.Path.{_≡_, refl, sym, ap, _∙_}
+use mathlib.Core.Bool.{Bool, true, false, cond}
 use Prim.Native.Nat.{ℕ, zero, suc, _+_, _-_, _*_, _/_, _%_, _^_, _≤_, _<_, min, zero-le}
-use native.Mathlib.Nat.{zero-mul, mul-one, mul-assoc, mul-right-comm, mul-le-mul-right, le-of-mul-le-mul-right, eq-of-mul-eq-mul-right, div-eq-of-eq-mul-left, div-add-mod', zero-div, le-trans}
+use native.Mathlib.Nat.{zero-mul, mul-one, mul-right-comm, le-of-mul-le-mul-right, eq-of-mul-eq-mul-right, div-eq-of-eq-mul-left, div-add-mod', zero-div, le-trans}
 use native.Mathlib.Omega.{arith}
 use lib.Dec.{T, eqb, eqb-refl, le→leb, lit<}
 use lib.Signed.{leZ}
 use lib.Ieee.Nearest.{div-mono}
 use lib.Pow.{pow-pos, pow-mono}
 use lib.IntN.{ℤ, pos, negsuc, negℤ, natAbs, _*ℤ_, pos-*ℤ-pos, negsuc-*ℤ-pos, zero-*ℤ}
-use lib.Ieee.{Float, nan, inf, fin, binary64, up, down, round, fits, ofInt, toSigned, toUnsigned, eq, le, isNan}
-use lib.Ieee.Fits.{down-pos, and-i, eq→eqb}
+use lib.Ieee.{Float, nan, inf, fin, binary64, up, down, round, fits, ofInt, toSigned, toUnsigned, eq, le}
+use lib.Ieee.Fits.{down-pos, and-i}
 use lib.Ieee.Back.{round-whole}
 use lib.Ieee.Scale.{round-same}
 use Rattle.leaves.specs.Num.{zero64, real}

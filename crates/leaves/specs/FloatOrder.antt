@@ -1,6 +1,6 @@
 -- `le` and `lt` order the floats: transitive, and off NaN total, each the other's denial.
-use mathlib.Core.Path.{_≡_, refl, sym, ap, _∙_, subst}
-use mathlib.Core.Bool.{Bool, true, false, not, _&&_, _||_, Bool·beq}
+use mathlib.Core.Path.{_≡_, sym, subst}
+use mathlib.Core.Bool.{Bool, true, false, not, _||_, Bool·beq}
 use mathlib.Core.Logic.{_⊎_, inl, inr}
 use Prim.Native.Nat.{ℕ, _+_, _*_, _≤_, _<_}
 use native.Mathlib.Nat.{le-of-mul-le-mul-right, mul-le-mul-right}
@@ -9,9 +9,8 @@ use native.Mathlib.Omega.{arith}
 use lib.Dec.{T, eqb, eqb→eq}
 use lib.Ieee.{Float, nan, inf, fin, up, down, level, neg, lt, eq, le, isNan}
 use lib.Ieee.Fits.{down-pos, and-l}
-use lib.Ieee.Positive.{den, den-pos}
 use Rattle.leaves.specs.Order.{finite}
-use Rattle.leaves.specs.Fraction.{over, under, plus, less, le→cross, cross→le, lt→cross, cross→lt}
+use Rattle.leaves.specs.Fraction.{over, under, le→cross, cross→le, lt→cross, cross→lt}
 
 -- three fractions (p - n) / d
 pub through : (p n d p′ n′ d′ p″ n″ d″ : ℕ) → 0 < d′ → p * d′ + n′ * d ≤ p′ * d + n * d′ → p′ * d″ + n″ * d′ ≤ p″ * d′ + n′ * d″ → p * d″ + n″ * d ≤ p″ * d + n * d″

@@ -1,15 +1,15 @@
 -- Sums, differences, products and quotients go up with an operand, or down, by the sign of the other one; each rounded once.
-use mathlib.Core.Path.{_≡_, refl, sym, ap, _∙_, subst}
-use mathlib.Core.Bool.{Bool, true, false, not, cond}
-use Prim.Native.Nat.{ℕ, zero, suc, _+_, _*_, _^_, _≤_, _<_}
+use mathlib.Core.Path.{_≡_, refl, ap}
+use mathlib.Core.Bool.{Bool, true, false}
+use Prim.Native.Nat.{ℕ, suc, _+_, _*_, _≤_, _<_}
 use native.Mathlib.Nat.{mul-pos, mul-le-mul-right}
 use native.Mathlib.Omega.{arith}
-use lib.Dec.{T, leb, leb→le, ltb→lt, lit<}
+use lib.Dec.{T, leb→le, lit<}
 use lib.IntN.{ℤ, pos, negsuc}
 use lib.Signed.{leZ}
 use borrow.Author.Tests.{ne-eqb}
-use lib.Ieee.{Float, nan, inf, fin, binary64, up, down, unlike, round, add, sub, div, fits, lt, le, isNan}
-use lib.Ieee.Fits.{up-pos, down-pos}
+use lib.Ieee.{Float, nan, inf, fin, binary64, up, down, unlike, round, add, sub, div, fits, lt, le}
+use lib.Ieee.Fits.{down-pos}
 use lib.Ieee.Positive.{den, den-pos}
 use Rattle.leaves.specs.Num.{_⊕_, _⊖_, _⊗_, _⊘_, zero64, real}
 use Rattle.leaves.specs.Order.{finite}
@@ -114,8 +114,7 @@ div-anti x y y′ f g g′ p q q′ h =
 -- ---- a sum with what is not below zero, and a difference with it
 finite-up : (s l : Float) → T (fits binary64 s) → T (finite s) → T (finite l) → T (le zero64 l) → T (le s (s ⊕ l)) × T (le (s ⊖ l) s)
 finite-up s l q f g p =
-    let z = at-least-zero l g p in
-    (
+    let z = at-least-zero l g p in (
       rounded-le (own-rounded s f q) (rw z at (add-rounded s l f g)) (den-pos s) (mul-pos (den-pos s) (den-pos l)) (omega arith),
       rounded-le (rw z at (sub-rounded s l f g)) (own-rounded s f q) (mul-pos (den-pos s) (den-pos l)) (den-pos s) (omega arith),
     )

@@ -1,14 +1,14 @@
 -- The laws of `root`: what it gives is the correctly rounded root, and nothing else is; it goes up with its operand, and a bound's digits are halved.
 use mathlib.Core.Path.{_≡_, refl, sym, ap, subst, _∙_}
-use mathlib.Core.Bool.{Bool, true, false, not, _&&_}
-use Prim.Native.Nat.{ℕ, zero, suc, _+_, _*_, _/_, _^_, _≤_, _<_}
-use native.Mathlib.Nat.{zero-lt-suc, one-mul, mul-one, mul-assoc, mul-right-comm, mul-pos, mul-le-mul, mul-le-mul-right, mul-le-mul-left, mul-lt-mul-of-pos-right, le-trans, le-of-eq, le-of-lt, lt-of-le-of-lt, lt-of-lt-of-le, lt-of-not-le, not-le-of-lt, le-div-iff-mul-le, zero-mul}
-use native.Mathlib.Decide.{decLe, decLt}
+use mathlib.Core.Bool.{Bool, true, false, not}
+use Prim.Native.Nat.{ℕ, zero, suc, _+_, _*_, _^_, _≤_, _<_}
+use native.Mathlib.Nat.{zero-lt-suc, one-mul, mul-right-comm, mul-pos, mul-le-mul-right, mul-lt-mul-of-pos-right, le-trans, le-of-eq, lt-of-le-of-lt, lt-of-lt-of-le, lt-of-not-le, not-le-of-lt, le-div-iff-mul-le}
+use native.Mathlib.Decide.{decLe}
 use native.Mathlib.Omega.{arith}
 use lib.IntN.{ℤ, pos, negsuc}
 use lib.Pow.{pow-pos, pow-add, pow-mono}
 use lib.Dec.{T, ltb→lt, lt→ltb, lit<}
-use lib.Ieee.{Float, nan, inf, fin, binary64, up, down, odd, fits, lt, le, eq}
+use lib.Ieee.{Float, nan, inf, fin, binary64, up, down, odd, fits, lt, le}
 use lib.Ieee.Fits.{up-pos, down-pos, odd-fits, nan-fits, inf-fits}
 use lib.Ieee.Bits.{is-false}
 use lib.Ieee.Exact.{HasValue, odd-sign}
@@ -19,9 +19,9 @@ use Rattle.leaves.specs.Num.{zero64}
 use Rattle.leaves.specs.Root.{root, rootUnits}
 use Rattle.leaves.specs.Order.{negative, finite}
 use Rattle.leaves.specs.Value.{unitsOf, Nearer, IsRoot}
-use Rattle.leaves.specs.Units.{grid, fine, units-lt, own-units, same-units, pow-le-back}
+use Rattle.leaves.specs.Units.{grid, fine, units-lt, own-units, same-units}
 use Rattle.leaves.specs.RootNearest.{Rooted, rooted, at-least, at-most, units-nearest}
-use Rattle.leaves.specs.Fraction.{le→cross, lt→cross, cross→le}
+use Rattle.leaves.specs.Fraction.{le→cross, cross→le}
 use Rattle.leaves.specs.FloatOrder as order
 
 -- ---- the value is above zero
