@@ -2,11 +2,11 @@
 use mathlib.Core.Path.{_≡_, sym, ap, _∙_, subst}
 use mathlib.Core.Bool.{Bool, true, false, not}
 use mathlib.Core.Logic.{_⊎_, inl, inr}
-use Prim.Native.Nat.{ℕ, zero, suc, _+_, _*_, _/_, _^_, _≤_, _<_}
+use Prim.Native.Nat.{ℕ, zero, suc, _+_, _-_, _*_, _/_, _^_, _≤_, _<_}
 use native.Mathlib.Nat.{one-mul, mul-one, mul-assoc, mul-comm, mul-left-comm, mul-pos, mul-le-mul, mul-le-mul-left, mul-le-mul-right, le-of-mul-le-mul-right, eq-zero-or-pos, le-trans, le-of-eq, lt-of-le-of-lt}
 use native.Mathlib.Omega.{arith}
 use lib.Dec.{T, lit<}
-use lib.Pow.{pow-add, pow-mono}
+use lib.Pow.{pow-pos, pow-add, pow-mono}
 use lib.IntN.{ℤ, pos, negsuc, natAbs}
 use lib.Ieee.{Float, nan, inf, fin, binary64, up, down, unlike, round, mul, neg, ofInt, lt, le}
 use lib.Ieee.Fits.{down-pos}
@@ -221,6 +221,29 @@ within-real n (negsuc a) l h = within-round n true (suc a) 1 l (lit< tt) (omega 
 pub within-literal : (n a b : ℕ) → n ≤ 1000 → 0 < b → a ≤ 2 ^ n * b → Within n (literal a b)
 unfolding literal
 within-literal n a b l B h = within-round n false a b l B h
+
+-- 2 ^ -j is a value
+pub least : (j : ℕ) → j ≤ 1000 → HasValue (round binary64 false 1 (2 ^ j)) false 1 (2 ^ j)
+least j h = round-exact binary64 false 1 (2 ^ j) 1 (1074 - j) (pow-pos j) (lit< tt)
+    (lt-of-le-of-lt (le-of-eq (one-mul (2 ^ (1074 - j)))) (lt-of-le-of-lt (pow-mono (reach j)) (lit< tt)))
+    (ap (λ (k : ℕ). 1 * k) (ap (λ (k : ℕ). 2 ^ k) (back j h) ∙ pow-add 2 (1074 - j) j) ∙ sym (mul-assoc 1 (2 ^ (1074 - j)) (2 ^ j)))
+  where
+    reach : (j : ℕ) → 1074 - j ≤ 1074
+    reach j = omega arith
+
+    back : (j : ℕ) → j ≤ 1000 → 1074 ≡ (1074 - j) + j
+    back j h = omega arith
+
+pub atleast-literal : (j n a b : ℕ) → j ≤ 1000 → n ≤ 1000 → 0 < b → b ≤ a * 2 ^ j → a ≤ 2 ^ n * b → AtLeast j (literal a b)
+atleast-literal j n a b J N B h k =
+    atleast-le j (round binary64 false 1 (2 ^ j)) (literal a b) (reaches (round binary64 false 1 (2 ^ j)) (least j J)) (within-finite n (literal a b) (within-literal n a b N B k))
+    (unfold literal in round-mono binary64 1 (2 ^ j) a b (pow-pos j) B (le-trans (le-of-eq (one-mul b)) h))
+  where
+    reaches : (v : Float) → HasValue v false 1 (2 ^ j) → AtLeast j v
+    reaches nan h = absurd h
+    reaches (inf s) h = absurd h
+    reaches (fin true m e) h = absurd (subst T (h .0) tt)
+    reaches (fin false m e) h = unfold AtLeast in le-of-eq (sym (one-mul (down e)) ∙ sym (h .1))
 
 whole-within : (n : ℕ) (away : Bool) (x : Float) → n ≤ 1000 → Within n x → Within n (wholeOf away x)
 unfolding Within wholeOf

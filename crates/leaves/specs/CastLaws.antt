@@ -8,7 +8,7 @@ use lib.Dec.{T, eqb, eqb-refl, le→leb, lit<}
 use lib.Signed.{leZ}
 use lib.Ieee.Nearest.{div-mono}
 use lib.Pow.{pow-pos, pow-mono}
-use lib.IntN.{ℤ, pos, negsuc, negℤ, natAbs, _*ℤ_, pos-*ℤ-pos, negsuc-*ℤ-pos, zero-*ℤ}
+use lib.IntN.{ℤ, pos, negsuc, negℤ, natAbs, _+ℤ_, _*ℤ_, pos-*ℤ-pos, negsuc-*ℤ-pos, zero-*ℤ}
 use lib.Ieee.{Float, nan, inf, fin, binary64, up, down, round, fits, ofInt, toSigned, toUnsigned, eq, le}
 use lib.Ieee.Fits.{down-pos, and-i}
 use lib.Ieee.Back.{round-whole}
@@ -70,6 +70,7 @@ made-up n m e a f h u l = record {
   small = l;
   exact = ap pos u ∙ sym (pos-*ℤ-pos a (2 ^ 1074));
   back = rw (back-is false m e a f h) (eq-self (fin false m e) tt);
+  same = λ s. back-is false m e a f h;
 }
 
 made-down : (n m : ℕ) (e : ℤ) (a : ℕ) → T (fits binary64 (fin true m e)) → m * up e ≡ a * down e → unitsOf (fin true m e) ≡ a * 2 ^ 1074 → a ≤ 2 ^ n → IsWhole n (fin true m e) (negℤ (pos a))
@@ -78,6 +79,7 @@ made-down n m e a f h u l = record {
   small = rw (abs-opposite a) l;
   exact = ap (λ (k : ℕ). negℤ (pos k)) u ∙ opposite a (2 ^ 1074);
   back = opposite-back m e a f h;
+  same = λ s. absurd s;
 }
 
 pub signed-keeps : (n : ℕ) (v : Float) → n ≤ 62 → T (fits binary64 v) → unitsOf v % 2 ^ 1074 ≡ 0 → Within n v → IsWhole n v (toSigned 63 v)
@@ -117,10 +119,10 @@ pub real-whole : (k : ℤ) → natAbs k ≤ 2 ^ 53 → IsWhole 53 (real k) k
 unfolding ofInt
 real-whole (pos n) h =
     let v = value-units (round binary64 false n 1) false n (round-whole binary64 false n h) in
-    record { small = h; exact = value-is (round binary64 false n 1) false (n * 2 ^ 1074) (v .1) (v .0) ∙ sym (pos-*ℤ-pos n (2 ^ 1074)); back = eq-self (round binary64 false n 1) (v .2) }
+    record { small = h; exact = value-is (round binary64 false n 1) false (n * 2 ^ 1074) (v .1) (v .0) ∙ sym (pos-*ℤ-pos n (2 ^ 1074)); back = eq-self (round binary64 false n 1) (v .2); same = λ s. refl }
 real-whole (negsuc n) h =
     let v = value-units (round binary64 true (suc n) 1) true (suc n) (round-whole binary64 true (suc n) h) in
-    record { small = h; exact = value-is (round binary64 true (suc n) 1) true (suc n * 2 ^ 1074) (v .1) (v .0) ∙ sym (negsuc-*ℤ-pos n (2 ^ 1074)); back = eq-self (round binary64 true (suc n) 1) (v .2) }
+    record { small = h; exact = value-is (round binary64 true (suc n) 1) true (suc n * 2 ^ 1074) (v .1) (v .0) ∙ sym (negsuc-*ℤ-pos n (2 ^ 1074)); back = eq-self (round binary64 true (suc n) 1) (v .2); same = λ s. refl }
 
 -- ---- of floor and ceiling
 pub floor-signed : (n : ℕ) (x : Float) → n ≤ 62 → T (fits binary64 x) → Within n x → IsWhole n (floor x) (toSigned 63 (floor x))
@@ -134,6 +136,17 @@ floor-unsigned n x l f g h = unsigned-keeps n (floor x) l (floor-fits x) (floor-
 
 pub ceil-unsigned : (n : ℕ) (x : Float) → n ≤ 63 → T (fits binary64 x) → T (le zero64 x) → Within n x → IsWhole n (ceil x) (pos (toUnsigned 64 (ceil x)))
 ceil-unsigned n x l f g h = unsigned-keeps n (ceil x) l (ceil-fits x) (ceil-up x g) (ceil-has x f (within-finite n x h) .whole) (within-ceil n x (omega arith) h)
+
+-- so the integer is x's floor, or ceiling, exactly
+pub floor-number : (n : ℕ) (x : Float) → n ≤ 62 → T (fits binary64 x) → Within n x → (d : ℕ) × (d < 2 ^ 1074) × (valueOf x ≡ toSigned 63 (floor x) *ℤ pos (2 ^ 1074) +ℤ pos d)
+floor-number n x l f h =
+    let r = floor-has x f (within-finite n x h) in
+    (r .rest, r .under-one, r .is ∙ ap (λ (j : ℤ). j +ℤ pos (r .rest)) (floor-signed n x l f h .exact))
+
+pub ceil-number : (n : ℕ) (x : Float) → n ≤ 62 → T (fits binary64 x) → Within n x → (d : ℕ) × (d < 2 ^ 1074) × (toSigned 63 (ceil x) *ℤ pos (2 ^ 1074) ≡ valueOf x +ℤ pos d)
+ceil-number n x l f h =
+    let r = ceil-has x f (within-finite n x h) in
+    (r .rest, r .under-one, sym (ceil-signed n x l f h .exact) ∙ r .is)
 
 -- ---- the casts go up with their operand
 neg-le-pos : (a b : ℕ) → T (leZ (negℤ (pos a)) (pos b))

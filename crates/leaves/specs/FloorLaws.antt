@@ -78,6 +78,12 @@ pub ceil-fits : (x : Float) → T (fits binary64 (ceil x))
 unfolding ceil
 ceil-fits x = whole-fits (not (negative x)) x
 
+pub floor-finite : (x : Float) → T (fits binary64 x) → T (finite x) → T (finite (floor x))
+floor-finite x f g = floor-has x f g .fine
+
+pub ceil-finite : (x : Float) → T (fits binary64 x) → T (finite x) → T (finite (ceil x))
+ceil-finite x f g = ceil-has x f g .fine
+
 -- ---- the order
 -- the least whole number from a / d on
 pub away-least : (a d q : ℕ) → 0 < d → a ≤ q * d → part true a d ≤ q

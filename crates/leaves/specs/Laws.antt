@@ -1,6 +1,6 @@
 -- The laws of the numbers that callers use: no caller opens a definition of `leaves`, or a float.
 -- Hypotheses come as `T test`; `holds` and `fails` make one of what a branch shows. ≤ and < below stand for `le` and `lt`, 0 for `zero64`, and a NaN is in no order.
--- `T (fits binary64 x)` holds for every f64 of the code, and for every result of an operation.
+-- `T (fits binary64 x)` holds for every f64 of the code, and for every result of an operation. Some names are those of ℕ's laws too: `use .. Laws as laws`, and `laws.le-trans`.
 use mathlib.Core.Path.{_≡_, sym, subst}
 use mathlib.Core.Bool.{Bool, true, false, not}
 use lib.Dec.{T}
@@ -47,19 +47,22 @@ pub use Rattle.leaves.specs.Choice.{magnitude-up, le-magnitude, neg-le-m
 pub use Rattle.leaves.specs.Roots.{root-mono}
 -- never negative, finite of what is finite, above zero of what is above zero
 pub use Rattle.leaves.specs.Roots.{root-up, root-finite, root-above}
--- a zero is its own root; below zero there is none; in between it is the correctly rounded one
-pub use Rattle.leaves.specs.Ieee754.{root-zero, root-below, root-is}
+-- a zero is its own root; below zero there is none; above it is the correctly rounded one (`IsRoot`)
+pub use Rattle.leaves.specs.Roots.{root-of-zero}
+pub use Rattle.leaves.specs.Ieee754.{root-below, root-is}
 -- ---- floor and ceiling
 -- x ≤ y makes floor x ≤ floor y and ceil x ≤ ceil y
 pub use Rattle.leaves.specs.FloorLaws.{floor-mono, ceil-mono}
 -- floor x ≤ x ≤ ceil x, if x is no NaN; 0 ≤ x makes 0 ≤ floor x and 0 ≤ ceil x
 pub use Rattle.leaves.specs.FloorLaws.{floor-le, le-ceil, floor-up, ceil-up}
+-- finite of what is finite
+pub use Rattle.leaves.specs.FloorLaws.{floor-finite, ceil-finite}
 -- exactly: whole, finite, less than one away, with x's sign (`IsFloor`, `IsCeil`)
 pub use Rattle.leaves.specs.Ieee754.{floor-is, ceil-is}
 -- a whole number is its own floor and ceiling; up to x it is up to the floor, and from x on from the ceiling on
 pub use Rattle.leaves.specs.FloorLaws.{floor-whole, ceil-whole, whole-le-floor, ceil-le-whole}
 -- ---- operations, each rounded once, go up and down with their operands
--- x ≤ x′ and y ≤ y′ make x ⊕ y ≤ x′ ⊕ y′, and x ⊖ y′ ≤ x′ ⊖ y
+-- x ≤ x′ and y ≤ y′ make x ⊕ y ≤ x′ ⊕ y′; x ≤ x′ and y′ ≤ y make x ⊖ y ≤ x′ ⊖ y′
 pub use Rattle.leaves.specs.Monotone.{add-mono, sub-mono}
 -- x ≤ x′ makes x ⊗ y ≤ x′ ⊗ y where 0 ≤ y, also with the factors turned round, and x′ ⊗ y ≤ x ⊗ y where y ≤ 0
 pub use Rattle.leaves.specs.Monotone.{mul-mono, mul-mono-right, mul-anti}
@@ -78,7 +81,7 @@ pub use Rattle.leaves.specs.Bounds.{within-finite, within-more, atleast-
 -- from a test: |x| ≤ y; lo ≤ x ≤ hi; x ≤ y with x at least
 pub use Rattle.leaves.specs.Bounds.{within-le, within-between, atleast-le}
 -- of whole numbers, literals and constants
-pub use Rattle.leaves.specs.Bounds.{within-real, within-literal, within-fin, atleast-fin}
+pub use Rattle.leaves.specs.Bounds.{within-real, within-literal, within-fin, atleast-literal, atleast-fin}
 -- -x and |x| keep n; a sum and a difference have n + 1; a product a + b; a quotient by what is AtLeast j, n + j
 pub use Rattle.leaves.specs.Bounds.{within-neg, within-magnitude, within-add, within-sub, within-mul, within-div}
 -- floor and ceiling keep n; the root has half of it, from above and from below
@@ -91,6 +94,8 @@ pub use Rattle.leaves.specs.Squares.{within-square, within-squares}
 pub use Rattle.leaves.specs.CastLaws.{signed-keeps, unsigned-keeps}
 -- so do floor and ceiling of an x of at most 2 ^ n
 pub use Rattle.leaves.specs.CastLaws.{floor-signed, ceil-signed, floor-unsigned, ceil-unsigned}
+-- so as an i64 it is x's floor, or ceiling, exactly: x in units is that many ones and less than one more, or less
+pub use Rattle.leaves.specs.CastLaws.{floor-number, ceil-number}
 -- every whole number of 53 digits is a float
 pub use Rattle.leaves.specs.CastLaws.{real-whole}
 -- x ≤ y makes x as an integer ≤ y as one

@@ -1,23 +1,23 @@
 -- Bounds of size through the root: it halves the digits.
 use mathlib.Core.Path.{_≡_, sym, ap, _∙_, subst}
 use mathlib.Core.Bool.{Bool, true, false}
-use Prim.Native.Nat.{ℕ, zero, suc, _+_, _-_, _*_, _^_, _≤_, _<_, zero-le}
-use native.Mathlib.Nat.{zero-mul, one-mul, mul-assoc, mul-pos, mul-le-mul, mul-le-mul-right, le-of-mul-le-mul-right, eq-of-mul-eq-mul-right, le-trans, le-of-eq, lt-of-le-of-lt, lt-of-not-le, le-of-lt}
+use Prim.Native.Nat.{ℕ, zero, suc, _+_, _*_, _^_, _≤_, _<_, zero-le}
+use native.Mathlib.Nat.{zero-mul, one-mul, mul-pos, mul-le-mul, mul-le-mul-right, le-of-mul-le-mul-right, eq-of-mul-eq-mul-right, le-trans, le-of-eq, lt-of-not-le, le-of-lt}
 use native.Mathlib.Decide.{decLe}
 use native.Mathlib.Omega.{arith}
 use lib.Dec.{T, lit<}
-use lib.Pow.{pow-pos, pow-add, pow-mono}
+use lib.Pow.{pow-pos, pow-add}
 use lib.IntN.{ℤ}
 use lib.Ieee.{Float, nan, inf, fin, binary64, up, down, round, fits, le}
 use lib.Ieee.Fits.{down-pos, round-fits}
-use lib.Ieee.Exact.{HasValue, round-exact}
+use lib.Ieee.Exact.{HasValue}
 use Rattle.leaves.specs.Num.{zero64}
 use Rattle.leaves.specs.Root.{root}
 use Rattle.leaves.specs.Order.{negative, finite}
 use Rattle.leaves.specs.Value.{unitsOf, Within, AtLeast, Nearer}
 use Rattle.leaves.specs.Units.{units-exact}
 use Rattle.leaves.specs.Roots.{above-is, above-negative, nothing-below}
-use Rattle.leaves.specs.Bounds.{power}
+use Rattle.leaves.specs.Bounds.{power, least}
 
 -- ---- bounds, in units
 scale-down : (a d u w l : ℕ) → 0 < l → a * l ≡ u * d → u ≤ w * l → a ≤ w * d
@@ -84,18 +84,6 @@ within-root n (fin false (suc m) e) l f p h =
   where
     square : (u a l y : ℕ) → y ≡ a * l → u ≤ a * a * l → u * l ≤ y * y
     square u a l y e h = rw e (omega (arith, mul-le-mul-right l h))
-
--- 2 ^ -j is a value
-least : (j : ℕ) → j ≤ 1000 → HasValue (round binary64 false 1 (2 ^ j)) false 1 (2 ^ j)
-least j h = round-exact binary64 false 1 (2 ^ j) 1 (1074 - j) (pow-pos j) (lit< tt)
-    (lt-of-le-of-lt (le-of-eq (one-mul (2 ^ (1074 - j)))) (lt-of-le-of-lt (pow-mono (reach j)) (lit< tt)))
-    (ap (λ (k : ℕ). 1 * k) (ap (λ (k : ℕ). 2 ^ k) (back j h) ∙ pow-add 2 (1074 - j) j) ∙ sym (mul-assoc 1 (2 ^ (1074 - j)) (2 ^ j)))
-  where
-    reach : (j : ℕ) → 1074 - j ≤ 1074
-    reach j = omega arith
-
-    back : (j : ℕ) → j ≤ 1000 → 1074 ≡ (1074 - j) + j
-    back j h = omega arith
 
 pub atleast-root : (j : ℕ) (x : Float) → j ≤ 1000 → T (fits binary64 x) → AtLeast (j + j) x → AtLeast j (root x)
 unfolding AtLeast

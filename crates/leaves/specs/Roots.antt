@@ -1,15 +1,15 @@
 -- The laws of `root`: what it gives is the correctly rounded root, and nothing else is; it goes up with its operand, and a bound's digits are halved.
 use mathlib.Core.Path.{_≡_, refl, sym, ap, subst, _∙_}
-use mathlib.Core.Bool.{Bool, true, false, not}
+use mathlib.Core.Bool.{Bool, true, false, not, _||_, Bool·beq}
 use Prim.Native.Nat.{ℕ, zero, suc, _+_, _*_, _^_, _≤_, _<_}
 use native.Mathlib.Nat.{zero-lt-suc, one-mul, mul-right-comm, mul-pos, mul-le-mul-right, mul-lt-mul-of-pos-right, le-trans, le-of-eq, lt-of-le-of-lt, lt-of-lt-of-le, lt-of-not-le, not-le-of-lt, le-div-iff-mul-le}
 use native.Mathlib.Decide.{decLe}
 use native.Mathlib.Omega.{arith}
 use lib.IntN.{ℤ, pos, negsuc}
 use lib.Pow.{pow-pos, pow-add, pow-mono}
-use lib.Dec.{T, ltb→lt, lt→ltb, lit<}
-use lib.Ieee.{Float, nan, inf, fin, binary64, up, down, odd, fits, lt, le}
-use lib.Ieee.Fits.{up-pos, down-pos, odd-fits, nan-fits, inf-fits}
+use lib.Dec.{T, eqb, eqb→eq, ltb→lt, lt→ltb, lit<}
+use lib.Ieee.{Float, nan, inf, fin, binary64, up, down, odd, fits, lt, le, eq}
+use lib.Ieee.Fits.{and-l, up-pos, down-pos, odd-fits, nan-fits, inf-fits}
 use lib.Ieee.Bits.{is-false}
 use lib.Ieee.Exact.{HasValue, odd-sign}
 use lib.Ieee.Nearest.{div-mono}
@@ -168,6 +168,17 @@ root-up (inf false) f h = unfold root le in tt
 root-up (fin s zero e) f h = unfold root in h
 root-up (fin true (suc m) e) f h = absurd (nothing-below m e h)
 root-up (fin false (suc m) e) f h = zero-le false (pos 0) (root (fin false (suc m) e)) (above-fine m e f) (above-negative m e f)
+
+-- a zero is its own root
+pub root-of-zero : (x : Float) → T (eq x zero64) → root x ≡ x
+unfolding eq root
+root-of-zero nan h = refl
+root-of-zero (inf s) h = absurd h
+root-of-zero (fin s zero e) h = refl
+root-of-zero (fin s (suc m) e) h = absurd (some (suc m * up e) (mul-pos (zero-lt-suc m) (up-pos e)) (eqb→eq (suc m * up e * 1) (0 * down e) (and-l (eqb (suc m * up e * 1) (0 * down e)) (Bool·beq s false || eqb (suc m * up e * 1) 0) h)))
+  where
+    some : (a : ℕ) → 0 < a → a * 1 ≡ 0 * down e → ⊥
+    some a p q = omega arith
 
 -- above zero where x is
 pub root-above : (x : Float) → T (fits binary64 x) → T (lt zero64 x) → T (lt zero64 (root x))

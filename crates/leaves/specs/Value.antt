@@ -52,11 +52,12 @@ pub record IsCeil (x r : Float) : Type 0 where
   pub under-one : rest < 2 ^ 1074
   pub is : valueOf r ≡ valueOf x +ℤ pos rest
 
--- v is the whole number k, which is at most 2 ^ n in size, and k as a float is v again (+0 for -0)
+-- v is the whole number k, which is at most 2 ^ n in size, and k as a float equals v: it is v, but for -0
 pub record IsWhole (n : ℕ) (v : Float) (k : ℤ) : Type 0 where
   pub small : natAbs k ≤ 2 ^ n
   pub exact : valueOf v ≡ k *ℤ pos (2 ^ 1074)
   pub back : T (eq (real k) v)
+  pub same : T (not (negative v)) → real k ≡ v
 
 -- x is finite, and at most 2 ^ n in size
 unfoldable pub Within : ℕ → Float → Type 0
