@@ -6,9 +6,9 @@ use lib.IntN.{pos}
 use mir.Syntax.{w64}
 use mir.Val.{ofZ, toZ}
 use lib.Ieee.{Float, binary64, ofBits, toBits, ofInt, toSigned, toUnsigned}
-use Rattle.leaves.specs.Root.{root}
-use Rattle.leaves.specs.Whole.{floor, ceil}
-use Rattle.leaves.specs.Order.{before, smaller, larger, magnitude}
+use Rattle.numbers.specs.Root.{root}
+use Rattle.numbers.specs.Whole.{floor, ceil}
+use Rattle.numbers.specs.Order.{before, smaller, larger, magnitude}
 use Rattle.lists.specs.declared.hex.Word.{Word}
 use Rattle.lists.specs.declared.hex.Word.the-variants.{Is, Nothing}
 

@@ -4,7 +4,7 @@ use mathlib.Core.List.{List, [], _∷_, _++_}
 use Prim.Native.Nat.{ℕ}
 use lib.ListN.{replicate}
 use lib.Ieee.{ofBits, toBits, odd, ofFields, size, isNan}
-use Rattle.leaves.specs.Order.{before, smaller}
+use Rattle.numbers.specs.Order.{before, smaller}
 use Rattle.lists.specs.Words.{digitOf, wordFrom, wordAt}
 use Rattle.lists.specs.Asked.{ofTwo, answerOf}
 use Rattle.lists.specs.Judged.{framed, judged}

@@ -15,14 +15,14 @@ use lib.Ieee.Exact.{HasValue, odd-sign}
 use lib.Ieee.Nearest.{div-mono}
 use lib.Ieee.Order.{le-of-values}
 use lib.Ieee.Positive.{positive, positive-of-value}
-use Rattle.leaves.specs.Num.{zero64}
-use Rattle.leaves.specs.Root.{root, rootUnits}
-use Rattle.leaves.specs.Order.{negative, finite}
-use Rattle.leaves.specs.Value.{unitsOf, Nearer, IsRoot}
-use Rattle.leaves.specs.Units.{grid, fine, units-lt, own-units, same-units}
-use Rattle.leaves.specs.RootNearest.{Rooted, rooted, at-least, at-most, units-nearest}
-use Rattle.leaves.specs.Fraction.{le→cross, cross→le}
-use Rattle.leaves.specs.FloatOrder as order
+use Rattle.numbers.specs.Num.{zero64}
+use Rattle.numbers.specs.Root.{root, rootUnits}
+use Rattle.numbers.specs.Order.{negative, finite}
+use Rattle.numbers.specs.Value.{unitsOf, Nearer, IsRoot}
+use Rattle.numbers.specs.Units.{grid, fine, units-lt, own-units, same-units}
+use Rattle.numbers.specs.RootNearest.{Rooted, rooted, at-least, at-most, units-nearest}
+use Rattle.numbers.specs.Fraction.{le→cross, cross→le}
+use Rattle.numbers.specs.FloatOrder as order
 
 -- ---- the value is above zero
 down-le : (s : Bool) (m : ℕ) (e : ℤ) → T (fits binary64 (fin s m e)) → down e ≤ 2 ^ 1074

@@ -9,14 +9,14 @@ use lib.Dec.{T, lit<}
 use lib.IntN.{pos}
 use lib.Ieee.{Float, nan, inf, fin, binary64, up, down, fits, add, lt, le}
 use lib.Ieee.Fits.{down-pos, mul-fits}
-use Rattle.leaves.specs.Num.{_⊕_, _⊗_, zero64, real}
-use Rattle.leaves.specs.Order.{finite}
-use Rattle.leaves.specs.Value.{Within}
-use Rattle.leaves.specs.Fraction.{over, under}
-use Rattle.leaves.specs.FloatOrder as order
-use Rattle.leaves.specs.Commute.{⊕-comm}
-use Rattle.leaves.specs.Rounded.{rounded-le, mul-rounded}
-use Rattle.leaves.specs.Monotone.{real-rounded, square-up, add-up}
+use Rattle.numbers.specs.Num.{_⊕_, _⊗_, zero64, real}
+use Rattle.numbers.specs.Order.{finite}
+use Rattle.numbers.specs.Value.{Within}
+use Rattle.numbers.specs.Fraction.{over, under}
+use Rattle.numbers.specs.FloatOrder as order
+use Rattle.numbers.specs.Commute.{⊕-comm}
+use Rattle.numbers.specs.Rounded.{rounded-le, mul-rounded}
+use Rattle.numbers.specs.Monotone.{real-rounded, square-up, add-up}
 
 -- x is at most 2 ^ n in size, or its square at least 4 ^ n
 big-square : (n : ℕ) (x : Float) → T (finite x) → Within n x ⊎ T (le (real (pos (2 ^ n * 2 ^ n))) (x ⊗ x))

@@ -12,11 +12,11 @@ use lib.Ieee.{down, minus, size, odd}
 use lib.Count.{trailingZeros}
 use lib.Ieee.Fits.{down-pos}
 use lib.Ieee.Digits.{odd-val, size-lt, size-le, size-reaches}
-use Rattle.leaves.specs.Root.{nearRoot, rootUnits, isqrt}
-use Rattle.leaves.specs.RootLaws.{Root, isqrt-is, square-next, less-root}
-use Rattle.leaves.specs.Decode.{rootUnits-at, apart}
-use Rattle.leaves.specs.Value.{unitsOf, Nearer}
-use Rattle.leaves.specs.Units.{Grid}
+use Rattle.numbers.specs.Root.{nearRoot, rootUnits, isqrt}
+use Rattle.numbers.specs.RootLaws.{Root, isqrt-is, square-next, less-root}
+use Rattle.numbers.specs.Decode.{rootUnits-at, apart}
+use Rattle.numbers.specs.Value.{unitsOf, Nearer}
+use Rattle.numbers.specs.Units.{Grid}
 
 -- q is the whole number nearest to the root of m
 pub record Near (m q : ℕ) : Type 0 where

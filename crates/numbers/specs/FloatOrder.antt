@@ -9,8 +9,8 @@ use native.Mathlib.Omega.{arith}
 use lib.Dec.{T, eqb, eqb→eq}
 use lib.Ieee.{Float, nan, inf, fin, up, down, level, neg, lt, eq, le, isNan}
 use lib.Ieee.Fits.{down-pos, and-l}
-use Rattle.leaves.specs.Order.{finite}
-use Rattle.leaves.specs.Fraction.{over, under, le→cross, cross→le, lt→cross, cross→lt}
+use Rattle.numbers.specs.Order.{finite}
+use Rattle.numbers.specs.Fraction.{over, under, le→cross, cross→le, lt→cross, cross→lt}
 
 -- three fractions (p - n) / d
 pub through : (p n d p′ n′ d′ p″ n″ d″ : ℕ) → 0 < d′ → p * d′ + n′ * d ≤ p′ * d + n * d′ → p′ * d″ + n″ * d′ ≤ p″ * d′ + n′ * d″ → p * d″ + n″ * d ≤ p″ * d + n * d″

@@ -11,13 +11,13 @@ use lib.IntN.{ℤ}
 use lib.Ieee.{Float, nan, inf, fin, binary64, up, down, round, fits, le}
 use lib.Ieee.Fits.{down-pos, round-fits}
 use lib.Ieee.Exact.{HasValue}
-use Rattle.leaves.specs.Num.{zero64}
-use Rattle.leaves.specs.Root.{root}
-use Rattle.leaves.specs.Order.{negative, finite}
-use Rattle.leaves.specs.Value.{unitsOf, Within, AtLeast, Nearer}
-use Rattle.leaves.specs.Units.{units-exact}
-use Rattle.leaves.specs.Roots.{above-is, above-negative, nothing-below}
-use Rattle.leaves.specs.Bounds.{power, least}
+use Rattle.numbers.specs.Num.{zero64}
+use Rattle.numbers.specs.Root.{root}
+use Rattle.numbers.specs.Order.{negative, finite}
+use Rattle.numbers.specs.Value.{unitsOf, Within, AtLeast, Nearer}
+use Rattle.numbers.specs.Units.{units-exact}
+use Rattle.numbers.specs.Roots.{above-is, above-negative, nothing-below}
+use Rattle.numbers.specs.Bounds.{power, least}
 
 -- ---- bounds, in units
 scale-down : (a d u w l : ℕ) → 0 < l → a * l ≡ u * d → u ≤ w * l → a ≤ w * d

@@ -13,10 +13,10 @@ use lib.Ieee.{Float, nan, inf, fin, binary64, up, down, round, lt, neg, fits, of
 use lib.Ieee.Fits.{down-pos}
 use lib.Ieee.Exact.{HasValue}
 use lib.Ieee.Back.{round-whole}
-use Rattle.leaves.specs.Order.{negative, magnitude}
-use Rattle.leaves.specs.Whole.{part, wholeOf}
-use Rattle.leaves.specs.Units.{short}
-use Rattle.leaves.specs.Rounded.{neg-round, own-round}
+use Rattle.numbers.specs.Order.{negative, magnitude}
+use Rattle.numbers.specs.Whole.{part, wholeOf}
+use Rattle.numbers.specs.Units.{short}
+use Rattle.numbers.specs.Rounded.{neg-round, own-round}
 
 clash : {X : Type 0} → true ≡ false → X
 clash e = absurd (true≢false e)

@@ -10,15 +10,15 @@ use lib.Dec.{T, lit<}
 use lib.Ieee.{Float, nan, inf, fin, binary64, up, down, fits, le, isNan}
 use lib.Ieee.Fits.{down-pos}
 use lib.Ieee.Nearest.{div-mono}
-use Rattle.leaves.specs.Num.{zero64}
-use Rattle.leaves.specs.Order.{negative, finite}
-use Rattle.leaves.specs.Whole.{part, wholeOf, floor, ceil}
-use Rattle.leaves.specs.Value.{unitsOf, valueOf, IsFloor, IsCeil}
-use Rattle.leaves.specs.Units.{same-units}
-use Rattle.leaves.specs.Fraction.{over, under, le→cross}
-use Rattle.leaves.specs.FloatOrder as order
-use Rattle.leaves.specs.Rounded.{Rounded, rounded-le, own-rounded}
-use Rattle.leaves.specs.Floors.{part-toward, part-away, value-is, whole-fits, floor-has, ceil-has}
+use Rattle.numbers.specs.Num.{zero64}
+use Rattle.numbers.specs.Order.{negative, finite}
+use Rattle.numbers.specs.Whole.{part, wholeOf, floor, ceil}
+use Rattle.numbers.specs.Value.{unitsOf, valueOf, IsFloor, IsCeil}
+use Rattle.numbers.specs.Units.{same-units}
+use Rattle.numbers.specs.Fraction.{over, under, le→cross}
+use Rattle.numbers.specs.FloatOrder as order
+use Rattle.numbers.specs.Rounded.{Rounded, rounded-le, own-rounded}
+use Rattle.numbers.specs.Floors.{part-toward, part-away, value-is, whole-fits, floor-has, ceil-has}
 
 -- ---- two whole numbers with one value in reach are one
 multiples : (l v d v′ d′ : ℕ) → 0 < l → v % l ≡ 0 → v′ % l ≡ 0 → d < l → d′ < l → v + d ≡ v′ + d′ → v ≡ v′

@@ -11,17 +11,17 @@ use lib.IntN.{ℤ, pos}
 use lib.Ieee.{Float, nan, inf, fin, binary64, up, fits, isNan, neg, lt, toBits, ofBits}
 use lib.Ieee.Bits.{ofBits-toBits}
 use lib.Ieee.Exact.{HasValue}
-use Rattle.leaves.specs.Num.{zero64}
-use Rattle.leaves.specs.Root.{root}
-use Rattle.leaves.specs.Whole.{floor, ceil}
-use Rattle.leaves.specs.Order.{negative, finite, before, smaller, larger}
-use Rattle.leaves.specs.Value.{unitsOf, IsRoot, IsFloor, IsCeil}
-use Rattle.leaves.specs.Units.{own-units, same-units}
-use Rattle.leaves.specs.Fraction.{under, lt→cross}
-use Rattle.leaves.specs.OrderLaws.{before-irrefl, before-trans, before-total, lt-before, before-lt}
-use Rattle.leaves.specs.Roots.{root-has, root-unique}
-use Rattle.leaves.specs.Floors.{floor-has, ceil-has}
-use Rattle.leaves.specs.FloorLaws.{floor-unique, ceil-unique}
+use Rattle.numbers.specs.Num.{zero64}
+use Rattle.numbers.specs.Root.{root}
+use Rattle.numbers.specs.Whole.{floor, ceil}
+use Rattle.numbers.specs.Order.{negative, finite, before, smaller, larger}
+use Rattle.numbers.specs.Value.{unitsOf, IsRoot, IsFloor, IsCeil}
+use Rattle.numbers.specs.Units.{own-units, same-units}
+use Rattle.numbers.specs.Fraction.{under, lt→cross}
+use Rattle.numbers.specs.OrderLaws.{before-irrefl, before-trans, before-total, lt-before, before-lt}
+use Rattle.numbers.specs.Roots.{root-has, root-unique}
+use Rattle.numbers.specs.Floors.{floor-has, ceil-has}
+use Rattle.numbers.specs.FloorLaws.{floor-unique, ceil-unique}
 
 -- ---- the units of a finite f64 lose nothing of it, and with the sign they fix it
 pub units-are : (x : Float) → T (fits binary64 x) → T (finite x) → HasValue x (negative x) (unitsOf x) (2 ^ 1074)

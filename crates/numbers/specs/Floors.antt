@@ -11,11 +11,11 @@ use borrow.Author.Tests.{eqb-false}
 use lib.Ieee.{Float, nan, inf, fin, binary64, up, down, fits}
 use lib.Ieee.Fits.{down-pos, round-fits, nan-fits, inf-fits}
 use lib.Ieee.Exact.{HasValue}
-use Rattle.leaves.specs.Order.{negative, finite}
-use Rattle.leaves.specs.Whole.{part, wholeOf, floor, ceil}
-use Rattle.leaves.specs.Value.{unitsOf, valueOf, IsFloor, IsCeil}
-use Rattle.leaves.specs.Units.{units-exact}
-use Rattle.leaves.specs.WholeLaws.{whole-exact}
+use Rattle.numbers.specs.Order.{negative, finite}
+use Rattle.numbers.specs.Whole.{part, wholeOf, floor, ceil}
+use Rattle.numbers.specs.Value.{unitsOf, valueOf, IsFloor, IsCeil}
+use Rattle.numbers.specs.Units.{units-exact}
+use Rattle.numbers.specs.WholeLaws.{whole-exact}
 
 -- ---- a / d, made whole: toward zero it is at most a / d and less than one off, away from zero at least
 pub part-toward : (a d : ℕ) → 0 < d → (part false a d * d ≤ a) × (a < part false a d * d + d)

@@ -9,7 +9,7 @@ use lib.Dec.{T, ltb, eqb, ltb→lt, lt→ltb, eqb→eq}
 use lib.Ieee.{Float, nan, inf, fin, up, down, below, level, lt, le}
 use lib.Ieee.Fits.{and-l, and-r, and-i, eq→eqb}
 use lib.Ieee.Positive.{den}
-use Rattle.leaves.specs.Order.{finite}
+use Rattle.numbers.specs.Order.{finite}
 
 abbrev pub over : Bool → ℕ → ℕ
 over true a = 0

@@ -3,7 +3,7 @@ use Prim.Native.Nat.{ℕ, _+_, _*_, _/_, _%_}
 use mathlib.Core.Bool.{Bool, true, false, not, cond}
 use lib.Dec.{eqb}
 use lib.Ieee.{Float, nan, inf, fin, binary64, up, down, round}
-use Rattle.leaves.specs.Order.{negative}
+use Rattle.numbers.specs.Order.{negative}
 
 -- a / d, down to a whole number, or up where `away` says so
 abbrev pub part : Bool → ℕ → ℕ → ℕ

@@ -12,8 +12,8 @@ use borrow.Author.Tests.{lt-leb, ne-eqb}
 use lib.Ieee.{nan, inf, fin, binary64, up, down, minus, size, odd, ofBits, ofFields}
 use lib.Ieee.Digits.{Equals, odd-val}
 use lib.Ieee.Fits.{down-pos}
-use Rattle.leaves.specs.Root.{nearRoot, rootUnits, root}
-use Rattle.leaves.specs.Encode.{size-shifted}
+use Rattle.numbers.specs.Root.{nearRoot, rootUnits, root}
+use Rattle.numbers.specs.Encode.{size-shifted}
 
 -- ---- the three fields
 pub read : (b : ℕ) {s : Bool} {x t : ℕ} → leb (2 ^ 63) b ≡ s → b % 2 ^ 63 / 2 ^ 52 ≡ x → b % 2 ^ 52 ≡ t → ofBits binary64 b ≡ ofFields binary64 s x t

@@ -5,8 +5,8 @@ use mathlib.Core.Bool.{true, false, not, cond}
 use lib.IntN.{ℤ, pos, negℤ, natAbs, _+ℤ_, _*ℤ_}
 use lib.Dec.{T}
 use lib.Ieee.{Float, nan, inf, fin, binary64, up, down, eq, fits}
-use Rattle.leaves.specs.Num.{real}
-use Rattle.leaves.specs.Order.{negative, finite}
+use Rattle.numbers.specs.Num.{real}
+use Rattle.numbers.specs.Order.{negative, finite}
 
 -- the magnitude in units: of what fits f64 the division leaves no rest (`units-exact`)
 unfoldable pub unitsOf : Float → ℕ

@@ -13,15 +13,15 @@ use lib.Ieee.Fits.{down-pos}
 use lib.Ieee.Exact.{HasValue, round-exact}
 use lib.Ieee.Order.{round-mono}
 use lib.Ieee.Positive.{den, den-pos}
-use Rattle.leaves.specs.Num.{_⊕_, _⊖_, _⊗_, _⊘_, zero64, real, literal}
-use Rattle.leaves.specs.Whole.{part, wholeOf, floor, ceil}
-use Rattle.leaves.specs.Order.{negative, finite, magnitude}
-use Rattle.leaves.specs.Value.{Within, AtLeast}
-use Rattle.leaves.specs.Fraction.{over, under, plus, less, le→cross, cross→lt}
-use Rattle.leaves.specs.Rounded.{Rounded, neg-round, round-up, add-rounded, sub-rounded}
-use Rattle.leaves.specs.Monotone.{above-zero, div-rounded}
-use Rattle.leaves.specs.Floors.{part-toward}
-use Rattle.leaves.specs.FloorLaws.{away-least}
+use Rattle.numbers.specs.Num.{_⊕_, _⊖_, _⊗_, _⊘_, zero64, real, literal}
+use Rattle.numbers.specs.Whole.{part, wholeOf, floor, ceil}
+use Rattle.numbers.specs.Order.{negative, finite, magnitude}
+use Rattle.numbers.specs.Value.{Within, AtLeast}
+use Rattle.numbers.specs.Fraction.{over, under, plus, less, le→cross, cross→lt}
+use Rattle.numbers.specs.Rounded.{Rounded, neg-round, round-up, add-rounded, sub-rounded}
+use Rattle.numbers.specs.Monotone.{above-zero, div-rounded}
+use Rattle.numbers.specs.Floors.{part-toward}
+use Rattle.numbers.specs.FloorLaws.{away-least}
 
 pub within-finite : (n : ℕ) (x : Float) → Within n x → T (finite x)
 unfolding Within finite

@@ -13,16 +13,16 @@ use lib.Ieee.{Float, nan, inf, fin, binary64, up, down, round, fits, ofInt, toSi
 use lib.Ieee.Fits.{down-pos, and-i}
 use lib.Ieee.Back.{round-whole}
 use lib.Ieee.Scale.{round-same}
-use Rattle.leaves.specs.Num.{zero64, real}
-use Rattle.leaves.specs.Whole.{floor, ceil}
-use Rattle.leaves.specs.Order.{negative, finite}
-use Rattle.leaves.specs.Value.{unitsOf, valueOf, Within, IsWhole}
-use Rattle.leaves.specs.Units.{units-exact}
-use Rattle.leaves.specs.Fraction.{le→cross}
-use Rattle.leaves.specs.Rounded.{own-round}
-use Rattle.leaves.specs.Floors.{value-units, value-is, floor-has, ceil-has}
-use Rattle.leaves.specs.FloorLaws.{floor-fits, ceil-fits, floor-up, ceil-up}
-use Rattle.leaves.specs.Bounds.{within-finite, within-floor, within-ceil}
+use Rattle.numbers.specs.Num.{zero64, real}
+use Rattle.numbers.specs.Whole.{floor, ceil}
+use Rattle.numbers.specs.Order.{negative, finite}
+use Rattle.numbers.specs.Value.{unitsOf, valueOf, Within, IsWhole}
+use Rattle.numbers.specs.Units.{units-exact}
+use Rattle.numbers.specs.Fraction.{le→cross}
+use Rattle.numbers.specs.Rounded.{own-round}
+use Rattle.numbers.specs.Floors.{value-units, value-is, floor-has, ceil-has}
+use Rattle.numbers.specs.FloorLaws.{floor-fits, ceil-fits, floor-up, ceil-up}
+use Rattle.numbers.specs.Bounds.{within-finite, within-floor, within-ceil}
 
 -- ---- a / d is whole
 whole-part : (a d u l : ℕ) → 0 < d → 0 < l → a * l ≡ u * d → u % l ≡ 0 → (a ≡ a / d * d) × (u ≡ a / d * l)

@@ -11,10 +11,10 @@ use borrow.Author.Tests.{ne-eqb}
 use lib.Ieee.{Float, nan, inf, fin, binary64, up, down, unlike, round, add, sub, div, fits, lt, le}
 use lib.Ieee.Fits.{down-pos}
 use lib.Ieee.Positive.{den, den-pos}
-use Rattle.leaves.specs.Num.{_⊕_, _⊖_, _⊗_, _⊘_, zero64, real}
-use Rattle.leaves.specs.Order.{finite}
-use Rattle.leaves.specs.Fraction.{over, under, plus, less, le→cross, lt→cross}
-use Rattle.leaves.specs.Rounded.{Rounded, rounded-le, own-rounded, add-rounded, sub-rounded, mul-rounded}
+use Rattle.numbers.specs.Num.{_⊕_, _⊖_, _⊗_, _⊘_, zero64, real}
+use Rattle.numbers.specs.Order.{finite}
+use Rattle.numbers.specs.Fraction.{over, under, plus, less, le→cross, lt→cross}
+use Rattle.numbers.specs.Rounded.{Rounded, rounded-le, own-rounded, add-rounded, sub-rounded, mul-rounded}
 
 -- ---- the sign, from a comparison with zero
 pub at-least-zero : (x : Float) → T (finite x) → T (le zero64 x) → less x ≡ 0

@@ -12,8 +12,8 @@ use lib.Ieee.{Float, nan, inf, fin, binary64, up, down, size, fits, toBits, ofBi
 use lib.Ieee.Fits.{and-l, and-r, down-pos}
 use lib.Ieee.Bits.{ofBits-toBits}
 use lib.Ieee.Exact.{HasValue}
-use Rattle.leaves.specs.Order.{negative, finite}
-use Rattle.leaves.specs.Value.{unitsOf}
+use Rattle.numbers.specs.Order.{negative, finite}
+use Rattle.numbers.specs.Value.{unitsOf}
 
 pub pow-le-back : (i j : ℕ) → 2 ^ i ≤ 2 ^ j → i ≤ j
 pow-le-back i j h = go (decLe i j)

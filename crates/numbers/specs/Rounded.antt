@@ -14,12 +14,12 @@ use lib.Ieee.Nearest.{div-same}
 use lib.Ieee.Order.{round-mono}
 use lib.Ieee.Positive.{den}
 use lib.Ieee.Scale.{round-same}
-use Rattle.leaves.specs.Num.{zero64}
-use Rattle.leaves.specs.Order.{finite}
-use Rattle.leaves.specs.Value.{unitsOf}
-use Rattle.leaves.specs.Units.{grid, units-exact, units-lt, same-value}
-use Rattle.leaves.specs.Fraction.{over, under, plus, less}
-use Rattle.leaves.specs.FloatOrder.{le-trans, neg-le}
+use Rattle.numbers.specs.Num.{zero64}
+use Rattle.numbers.specs.Order.{finite}
+use Rattle.numbers.specs.Value.{unitsOf}
+use Rattle.numbers.specs.Units.{grid, units-exact, units-lt, same-value}
+use Rattle.numbers.specs.Fraction.{over, under, plus, less}
+use Rattle.numbers.specs.FloatOrder.{le-trans, neg-le}
 
 -- v is (p - n) / c, rounded
 pub record Rounded (v : Float) (p n c : ℕ) : Type 0 where

@@ -8,7 +8,7 @@ use native.Mathlib.Omega.{arith}
 use lib.Dec.{ltb, eqb}
 use borrow.Author.Tests.{lt-ltb, le-ltb}
 use lib.Ieee.{Float, nan, inf, fin, binary64, up, down, unlike, round, sum, add, mul}
-use Rattle.leaves.specs.Num.{_⊕_, _⊗_}
+use Rattle.numbers.specs.Num.{_⊕_, _⊗_}
 
 apart : (a b c : ℕ) → sum binary64 false a true b c ≡ sum binary64 true b false a c
 unfolding sum
