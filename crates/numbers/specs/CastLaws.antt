@@ -18,7 +18,7 @@ use Rattle.numbers.specs.Whole.{floor, ceil}
 use Rattle.numbers.specs.Order.{negative, finite}
 use Rattle.numbers.specs.Value.{unitsOf, valueOf, Within, IsWhole}
 use Rattle.numbers.specs.Units.{units-exact}
-use Rattle.numbers.specs.Fraction.{le→cross}
+use Rattle.numbers.specs.Fraction.{nothing, le→cross}
 use Rattle.numbers.specs.Rounded.{own-round}
 use Rattle.numbers.specs.Floors.{value-units, value-is, floor-has, ceil-has}
 use Rattle.numbers.specs.FloorLaws.{floor-fits, ceil-fits, floor-up, ceil-up}
@@ -109,10 +109,10 @@ unsigned-keeps n (fin false m e) l f g w h =
     uncut a h = omega arith
 unsigned-keeps n (fin true m e) l f g w h =
     let z : m * up e ≡ 0 = omega (arith, le→cross zero64 (fin true m e) tt tt g) in
-    made-down n m e 0 f (z ∙ sym (zero-mul (down e))) (nothing (m * up e) (down e) (unitsOf (fin true m e)) (2 ^ 1074) (down-pos e) (units-exact true m e f) z) (omega arith)
+    made-down n m e 0 f (z ∙ sym (zero-mul (down e))) (no-units (m * up e) (down e) (unitsOf (fin true m e)) (2 ^ 1074) (down-pos e) (units-exact true m e f) z) (omega arith)
   where
-    nothing : (a d u l : ℕ) → 0 < d → a * l ≡ u * d → a ≡ 0 → u ≡ 0 * l
-    nothing a d u l D e z = eq-of-mul-eq-mul-right d D u (0 * l) (omega (arith, ap (λ (x : ℕ). x * l) z))
+    no-units : (a d u l : ℕ) → 0 < d → a * l ≡ u * d → a ≡ 0 → u ≡ 0 * l
+    no-units a d u l D e z = eq-of-mul-eq-mul-right d D u (0 * l) (omega (arith, ap (λ (x : ℕ). x * l) z))
 
 -- every whole number of 53 digits is a float
 pub real-whole : (k : ℤ) → natAbs k ≤ 2 ^ 53 → IsWhole 53 (real k) k
@@ -166,15 +166,10 @@ pos-mono : (a b : ℕ) → a ≤ b → T (leZ (pos a) (pos b))
 pos-mono a b h = le→leb a b h
 
 no-part : (a d b c : ℕ) → 0 < d → 0 < c → a * c + b * d ≤ 0 → (a / d ≡ 0) × (b / c ≡ 0)
-no-part zero d zero c D C h = (zero-div d, zero-div c)
-no-part (suc a) d b c D C h = absurd (some c (a * c + b * d) C (omega arith))
-  where
-    some : (c r : ℕ) → 0 < c → c + r ≤ 0 → ⊥
-    some c r C h = omega arith
-no-part zero d (suc b) c D C h = absurd (some d (b * d) D (omega arith))
-  where
-    some : (d r : ℕ) → 0 < d → d + r ≤ 0 → ⊥
-    some d r D h = omega arith
+no-part a d b c D C h =
+    let p : a ≡ 0 = nothing a c (b * d) C h in
+    let q : b ≡ 0 = nothing b d (a * c) D (omega arith) in
+    (ap (λ (x : ℕ). x / d) p ∙ zero-div d, ap (λ (x : ℕ). x / c) q ∙ zero-div c)
 
 pub signed-mono : (h : ℕ) (x y : Float) → T (le x y) → T (leZ (toSigned h x) (toSigned h y))
 unfolding toSigned finite

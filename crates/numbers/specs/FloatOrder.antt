@@ -96,6 +96,27 @@ le-right (fin s m e) nan h = h
 le-right (fin s m e) (inf t) h = tt
 le-right (fin s m e) (fin t n d) h = tt
 
+-- the infinities are the ends
+pub minus-inf-le : (v : Float) → T (not (isNan v)) → T (le (inf true) v)
+unfolding le isNan
+minus-inf-le nan h = h
+minus-inf-le (inf true) h = tt
+minus-inf-le (inf false) h = tt
+minus-inf-le (fin s m e) h = tt
+
+pub le-inf : (v : Float) → T (not (isNan v)) → T (le v (inf false))
+unfolding le isNan
+le-inf nan h = h
+le-inf (inf true) h = tt
+le-inf (inf false) h = tt
+le-inf (fin s m e) h = tt
+
+pub finite-number : (x : Float) → T (finite x) → T (not (isNan x))
+unfolding finite isNan
+finite-number nan h = h
+finite-number (inf s) h = tt
+finite-number (fin s m e) h = tt
+
 pub lt-le : (x y : Float) → T (lt x y) → T (le x y)
 unfolding le
 lt-le x y h = go (lt x y) h

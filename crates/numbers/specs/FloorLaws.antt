@@ -1,7 +1,7 @@
 -- The laws of `floor` and `ceil`: nothing else has what IEEE 754 asks, they go up with x, and lie below and above it; a whole number is its own.
 use mathlib.Core.Path.{_≡_, refl, sym, ap, subst, _∙_}
 use mathlib.Core.Bool.{Bool, true, false, not, cond}
-use Prim.Native.Nat.{ℕ, zero, suc, _+_, _*_, _/_, _%_, _^_, _≤_, _<_}
+use Prim.Native.Nat.{ℕ, suc, _+_, _*_, _/_, _%_, _^_, _≤_, _<_}
 use native.Mathlib.Nat.{suc-mul, mul-right-comm, mul-le-mul-right, le-of-mul-le-mul-right, lt-of-mul-lt-mul-right, mul-add-div-right, div-eq-of-lt, div-add-mod', add-zero, le-trans, le-of-eq, lt-of-lt-of-le}
 use native.Mathlib.Omega.{arith}
 use lib.IntN.{ℤ, pos, negℤ, _+ℤ_, +ℤ-assoc, +ℤ-comm, +ℤ-invr, +ℤ-idl, +ℤ-idr, natAbs}
@@ -15,7 +15,7 @@ use Rattle.numbers.specs.Order.{negative, finite}
 use Rattle.numbers.specs.Whole.{part, wholeOf, floor, ceil}
 use Rattle.numbers.specs.Value.{unitsOf, valueOf, IsFloor, IsCeil}
 use Rattle.numbers.specs.Units.{same-units}
-use Rattle.numbers.specs.Fraction.{over, under, le→cross}
+use Rattle.numbers.specs.Fraction.{over, under, le→cross, nothing}
 use Rattle.numbers.specs.FloatOrder as order
 use Rattle.numbers.specs.Rounded.{Rounded, rounded-le, own-rounded}
 use Rattle.numbers.specs.Floors.{part-toward, part-away, value-is, whole-fits, floor-has, ceil-has}
@@ -107,24 +107,6 @@ whole-rounded away s m e = record { sign = s; size = part away (m * up e) (down 
 number : {v : Float} {p n c : ℕ} → Rounded v p n c → 0 < c → T (not (isNan v))
 number {v} {p} {n} {c} r C = order.le-left v v (rounded-le r r C C (omega arith))
 
-minus-inf-le : (v : Float) → T (not (isNan v)) → T (le (inf true) v)
-unfolding le isNan
-minus-inf-le nan h = h
-minus-inf-le (inf true) h = tt
-minus-inf-le (inf false) h = tt
-minus-inf-le (fin s m e) h = tt
-
-le-inf : (v : Float) → T (not (isNan v)) → T (le v (inf false))
-unfolding le isNan
-le-inf nan h = h
-le-inf (inf true) h = tt
-le-inf (inf false) h = tt
-le-inf (fin s m e) h = tt
-
-none : (a d b : ℕ) → 0 < d → a * d + b ≤ 0 → a ≡ 0
-none zero d b D h = refl
-none (suc a) d b D h = omega arith
-
 part-none : (away : Bool) (a d : ℕ) → 0 < d → a ≡ 0 → part away a d ≤ 0
 part-none false a d D h = rw h (le-of-eq (native.Mathlib.Nat.zero-div d))
 part-none true a d D h = away-least a d 0 D (omega arith)
@@ -137,18 +119,18 @@ module _ (g : Bool → Bool) where
   cross-mono true true a d b c D C h = omega (arith, part-mono (g true) b c a d C D (omega arith))
   cross-mono true false a d b c D C h = omega arith
   cross-mono false true a d b c D C h =
-      omega (arith, part-none (g false) a d D (none a c (b * d) C (omega arith)), part-none (g true) b c C (none b d (a * c) D (omega arith)))
+      omega (arith, part-none (g false) a d D (nothing a c (b * d) C (omega arith)), part-none (g true) b c C (nothing b d (a * c) D (omega arith)))
 
   whole-mono : (x y : Float) → T (le x y) → T (le (wholeOf (g (negative x)) x) (wholeOf (g (negative y)) y))
   unfolding negative
   whole-mono nan y h = unfold le in absurd h
   whole-mono (inf s) nan h = unfold le in absurd h
   whole-mono (inf s) (inf t) h = unfold wholeOf in h
-  whole-mono (inf true) (fin t n d) h = unfold wholeOf in minus-inf-le (wholeOf (g t) (fin t n d)) (number (whole-rounded (g t) t n d) (lit< tt))
+  whole-mono (inf true) (fin t n d) h = unfold wholeOf in order.minus-inf-le (wholeOf (g t) (fin t n d)) (number (whole-rounded (g t) t n d) (lit< tt))
   whole-mono (inf false) (fin t n d) h = unfold le in absurd h
   whole-mono (fin s m e) nan h = unfold le in absurd h
   whole-mono (fin s m e) (inf true) h = unfold le in absurd h
-  whole-mono (fin s m e) (inf false) h = unfold wholeOf in le-inf (wholeOf (g s) (fin s m e)) (number (whole-rounded (g s) s m e) (lit< tt))
+  whole-mono (fin s m e) (inf false) h = unfold wholeOf in order.le-inf (wholeOf (g s) (fin s m e)) (number (whole-rounded (g s) s m e) (lit< tt))
   whole-mono (fin s m e) (fin t n d) h =
       rounded-le (whole-rounded (g s) s m e) (whole-rounded (g t) t n d) (lit< tt) (lit< tt)
       (cross-mono s t (m * up e) (down e) (n * up d) (down d) (down-pos e) (down-pos d) (unfold finite in le→cross (fin s m e) (fin t n d) tt tt h))

@@ -4,8 +4,6 @@
 use mathlib.Core.Path.{_≡_, sym, subst}
 use mathlib.Core.Bool.{Bool, true, false, not}
 use lib.Dec.{T}
-use lib.Ieee.{Float, nan, inf, fin, isNan}
-use Rattle.numbers.specs.Order.{finite}
 -- ---- what fits: the results of ⊕, ⊖, ⊗, ⊘, a literal and a whole number's float; neg, root and magnitude of what fits; floor and ceiling
 pub use lib.Ieee.Fits.{add-fits, sub-fits, mul-fits, div-fits, round-fits, ofInt-fits, neg-fits}
 pub use Rattle.numbers.specs.Roots.{root-fits}
@@ -20,8 +18,8 @@ pub use Rattle.numbers.specs.FloatOrder.{le-trans, le-lt-trans, lt-le-tr
 pub use Rattle.numbers.specs.FloatOrder.{le-or-lt, le-lt-clash}
 -- no x < x; x < y makes x ≤ y, and so does x = y
 pub use Rattle.numbers.specs.FloatOrder.{lt-irrefl, lt-le, eq-le, eq-sym}
--- what stands in x ≤ y is no NaN
-pub use Rattle.numbers.specs.FloatOrder.{le-left, le-right}
+-- what stands in x ≤ y is no NaN, and what is finite is none
+pub use Rattle.numbers.specs.FloatOrder.{le-left, le-right, finite-number}
 -- x ≤ y makes -y ≤ -x
 pub use Rattle.numbers.specs.FloatOrder.{neg-le}
 -- ---- the total order, -0 before +0
@@ -108,10 +106,3 @@ holds e = subst T (sym e) tt
 
 pub fails : {b : Bool} → b ≡ false → T (not b)
 fails e = subst (λ (b : Bool). T (not b)) (sym e) tt
-
--- what is finite is no NaN
-pub finite-number : (x : Float) → T (finite x) → T (not (isNan x))
-unfolding finite isNan
-finite-number nan h = h
-finite-number (inf s) h = tt
-finite-number (fin s m e) h = tt

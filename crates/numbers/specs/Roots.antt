@@ -154,12 +154,6 @@ zero-le s e (inf t) g h = absurd g
 zero-le true e (fin t n d) g h = cross→le (fin true 0 e) (fin t n d) tt tt (rw h (omega arith))
 zero-le false e (fin t n d) g h = cross→le (fin false 0 e) (fin t n d) tt tt (rw h (omega arith))
 
-le-inf : (v : Float) → T (finite v) → T (le v (inf false))
-unfolding finite le
-le-inf nan g = g
-le-inf (inf s) g = absurd g
-le-inf (fin s m e) g = tt
-
 -- never negative: the root of -0 is -0
 pub root-up : (x : Float) → T (fits binary64 x) → T (le zero64 x) → T (le zero64 (root x))
 root-up nan f h = unfold le in absurd h
@@ -246,7 +240,7 @@ root-mono (fin s zero e) (fin false (suc n) d) f g p h = unfold root in zero-le 
 root-mono (fin true (suc m) e) y f g p h = absurd (nothing-below m e p)
 root-mono (fin false (suc m) e) nan f g p h = unfold le in absurd h
 root-mono (fin false (suc m) e) (inf true) f g p h = unfold le in absurd h
-root-mono (fin false (suc m) e) (inf false) f g p h = unfold root in le-inf (root (fin false (suc m) e)) (above-fine m e f)
+root-mono (fin false (suc m) e) (inf false) f g p h = unfold root in order.le-inf (root (fin false (suc m) e)) (order.finite-number (root (fin false (suc m) e)) (above-fine m e f))
 root-mono (fin false (suc m) e) (fin t zero d) f g p h = absurd (not-down m e t d h)
 root-mono (fin false (suc m) e) (fin true (suc n) d) f g p h = absurd (nothing-below n d (order.le-trans zero64 (fin false (suc m) e) (fin true (suc n) d) p h))
 root-mono (fin false (suc m) e) (fin false (suc n) d) f g p h = above-mono m n e d f g h

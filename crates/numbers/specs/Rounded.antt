@@ -2,7 +2,7 @@
 use mathlib.Core.Path.{_≡_, refl, sym, ap, _∙_, subst}
 use mathlib.Core.Bool.{Bool, true, false, not, cond}
 use Prim.Native.Nat.{ℕ, zero, suc, _+_, _-_, _*_, _^_, _≤_, _<_}
-use native.Mathlib.Nat.{zero-mul, mul-pos, lt-of-lt-of-le, le-of-eq, eq-of-mul-eq-mul-right}
+use native.Mathlib.Nat.{zero-mul, lt-of-lt-of-le, le-of-eq, eq-of-mul-eq-mul-right}
 use native.Mathlib.Omega.{arith}
 use lib.Dec.{T, ltb, ltb→lt, nltb→le, lit<}
 use lib.Pow.{pow-add}
@@ -18,7 +18,7 @@ use Rattle.numbers.specs.Num.{zero64}
 use Rattle.numbers.specs.Order.{finite}
 use Rattle.numbers.specs.Value.{unitsOf}
 use Rattle.numbers.specs.Units.{grid, units-exact, units-lt, same-value}
-use Rattle.numbers.specs.Fraction.{over, under, plus, less}
+use Rattle.numbers.specs.Fraction.{over, under, plus, less, nothing}
 use Rattle.numbers.specs.FloatOrder.{le-trans, neg-le}
 
 -- v is (p - n) / c, rounded
@@ -54,10 +54,6 @@ round-zero : (s : Bool) (b : ℕ) → 0 < b → round binary64 s 0 b ≡ fin s 0
 round-zero true b B = round-same binary64 true 0 b 0 1 B (lit< tt) (omega arith) ∙ (unfold round in refl)
 round-zero false b B = round-same binary64 false 0 b 0 1 B (lit< tt) (omega arith) ∙ (unfold round in refl)
 
-none : (a d e : ℕ) → 0 < d → a * d + e ≤ 0 → a ≡ 0
-none zero d e D h = refl
-none (suc a) d e D h = omega (arith, mul-pos (lit< {m = 0} {n = 1} tt) D)
-
 pub round-le : (s t : Bool) (a b c d : ℕ) → 0 < b → 0 < d → over s a * d + under t c * b ≤ over t c * b + under s a * d → T (le (round binary64 s a b) (round binary64 t c d))
 round-le false false a b c d B D h = round-mono binary64 a b c d B D (omega arith)
 round-le true true a b c d B D h =
@@ -66,8 +62,8 @@ round-le true false a b c d B D h =
     le-trans (round binary64 true a b) (neg zero64) (round binary64 false c d) (rw (← neg-round binary64 a b) (neg-le zero64 (round binary64 false a b) (round-up a b B)))
     (le-trans (neg zero64) zero64 (round binary64 false c d) (unfold neg le in tt) (round-up c d D))
 round-le false true a b c d B D h =
-    let p : a ≡ 0 = none a d (c * b) D (omega arith) in
-    let q : c ≡ 0 = none c b (a * d) B (omega arith) in
+    let p : a ≡ 0 = nothing a d (c * b) D (omega arith) in
+    let q : c ≡ 0 = nothing c b (a * d) B (omega arith) in
     rw (p, q, round-zero false b B, round-zero true d D) (unfold le in tt)
 
 pub rounded-le : {v w : Float} {p n c p′ n′ c′ : ℕ} → Rounded v p n c → Rounded w p′ n′ c′ → 0 < c → 0 < c′ → p * c′ + n′ * c ≤ p′ * c + n * c′ → T (le v w)
