@@ -6,7 +6,8 @@ use mathlib.Core.List.{List, [], _∷_, _++_}
 use lib.ListN.{length, take, drop}
 use lib.Ieee.{Float}
 use Rattle.seqs.specs.Front.{Front, front-at}
-use Rattle.seqs.specs.Put.{put, put-room}
+use Rattle.seqs.specs.Slices.{put}
+use Rattle.seqs.specs.Wrote.{put-room}
 use Rattle.geom.specs.declared.point.P.{P}
 use Rattle.geom.specs.Steps.{along}
 use Rattle.geom.specs.Outline.{points}

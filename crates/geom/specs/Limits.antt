@@ -6,8 +6,8 @@ use lib.Dec.{leb, eqb}
 use lib.ListN.{length}
 use lib.IntN.{pos, negsuc}
 use lib.Ieee.{Float, le, eq}
-use Rattle.leaves.specs.Num.{_⊕_, _⊗_, real, literal, half, zero64}
-use Rattle.leaves.specs.Order.{finite, magnitude}
+use Rattle.numbers.specs.Num.{_⊕_, _⊗_, real, literal, half, zero64}
+use Rattle.numbers.specs.Order.{finite, magnitude}
 use Rattle.geom.specs.declared.point.P.{P}
 use Rattle.geom.specs.Outline.{rising}
 

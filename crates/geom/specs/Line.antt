@@ -4,7 +4,7 @@ use mathlib.Core.Bool.{cond}
 use mathlib.Core.List.{List, [], _∷_, _++_}
 use lib.ListN.{take}
 use lib.Ieee.{Float, lt}
-use Rattle.leaves.specs.Num.{_⊕_, literal, zero64}
+use Rattle.numbers.specs.Num.{_⊕_, literal, zero64}
 use Rattle.geom.specs.declared.point.P.{P}
 use Rattle.geom.specs.Point.{dist}
 use Rattle.geom.specs.Steps.{steps, along}

@@ -5,9 +5,10 @@ use mathlib.Core.Path.{_≡_, refl, sym, ap, _∙_}
 use mathlib.Core.List.{List, [], _∷_, _++_}
 use lib.ListN.{length, drop, length-append}
 use lib.Ieee.{Float, binary64, ofBits, round}
-use Rattle.leaves.specs.Num.{_⊕_, literal, zero64}
+use Rattle.numbers.specs.Num.{_⊕_, literal, zero64}
 use Rattle.seqs.specs.Front.{Front, front-at, front-room-block, front-whole}
-use Rattle.seqs.specs.Put.{put, put-then}
+use Rattle.seqs.specs.Slices.{put}
+use Rattle.seqs.specs.Put.{put-then}
 use Rattle.geom.specs.declared.point.P.{P}
 use Rattle.geom.specs.Point.{dist}
 use Rattle.geom.specs.Steps.{along}

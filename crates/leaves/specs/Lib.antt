@@ -1,12 +1,2 @@
--- What the contracts of `leaves` cite (Num, Root, Whole, Order, Answer), and what is proved of it.
-pub mod Num
-pub mod Root
-pub mod Order
-pub mod Whole
+-- What the contracts of `leaves::checked` cite; the leaves themselves are defined in the crate numbers.
 pub mod Answer
-pub mod OrderLaws
-pub mod WholeLaws
-pub mod RootLaws
-pub mod Encode
-pub mod Decode
-pub mod Correct

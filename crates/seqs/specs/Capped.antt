@@ -1,58 +1,49 @@
--- Counts that stop one past a cap: exact up to it. `capped` is a definition; the rest are laws.
--- Assumes nothing.
+-- Counts that stop one past a cap. Assumes nothing.
 use mathlib.Core.Path.{_≡_, refl, sym, ap, _∙_}
-use mathlib.Core.Bool.{Bool, true, false, cond}
+use mathlib.Core.Bool.{true, false}
+use mathlib.Core.Logic.{_⊎_, inl, inr}
 use Prim.Native.Nat.{ℕ, _+_, _≤_, _<_}
 use native.Mathlib.Omega.{arith}
 use lib.Dec.{leb}
 use borrow.Author.Tests.{le-leb, lt-leb, leb-true, leb-false}
+use Rattle.seqs.specs.Slices.{capped}
+use Rattle.seqs.specs.Tests.{either}
 
-unfoldable pub capped : ℕ → ℕ → ℕ
-capped cap n = cond (leb n cap) n (cap + 1)
+module _ (cap : ℕ) where
+  pub capped-in : (n : ℕ) → n ≤ cap → capped cap n ≡ n
+  unfolding capped
+  capped-in n h = rw (le-leb n cap h)
 
-pub capped-in : (cap n : ℕ) → n ≤ cap → capped cap n ≡ n
-unfolding capped
-capped-in cap n h = rw (le-leb n cap h)
+  pub capped-over : (n : ℕ) → cap < n → capped cap n ≡ cap + 1
+  unfolding capped
+  capped-over n h = rw (lt-leb n cap h)
 
-pub capped-over : (cap n : ℕ) → cap < n → capped cap n ≡ cap + 1
-unfolding capped
-capped-over cap n h = rw (lt-leb n cap h)
-
-pub capped-le : (cap n : ℕ) → capped cap n ≤ cap + 1
-capped-le cap n = go (leb n cap) refl
-  where
-    go : (b : Bool) → leb n cap ≡ b → capped cap n ≤ cap + 1
-    go true t = omega (arith, capped-in cap n (leb-true n cap t), leb-true n cap t)
-    go false t = omega (arith, capped-over cap n (leb-false n cap t))
-
--- a capped count is its own
-pub capped-still : (cap n : ℕ) → n ≤ cap + 1 → capped cap n ≡ n
-capped-still cap n h = go (leb n cap) refl
-  where
-    go : (b : Bool) → leb n cap ≡ b → capped cap n ≡ n
-    go true t = capped-in cap n (leb-true n cap t)
-    go false t = capped-over cap n (leb-false n cap t) ∙ omega (arith, leb-false n cap t)
-
-module _ (cap n c : ℕ) (e : c ≡ capped cap n) where
-  -- a capped count that is not past the cap is exact
-  pub capped-exact : c ≤ cap → c ≡ n
-  capped-exact h = go (leb n cap) refl
+  -- within the cap and exact, or past it
+  pub capped-cases : (n : ℕ) → ((n ≤ cap) × (capped cap n ≡ n)) ⊎ ((cap < n) × (capped cap n ≡ cap + 1))
+  capped-cases n = go (either (leb n cap))
     where
-      go : (b : Bool) → leb n cap ≡ b → c ≡ n
-      go true t = e ∙ capped-in cap n (leb-true n cap t)
-      go false t = absurd (omega (arith, e, capped-over cap n (leb-false n cap t)))
+      go : (leb n cap ≡ true) ⊎ (leb n cap ≡ false) → ((n ≤ cap) × (capped cap n ≡ n)) ⊎ ((cap < n) × (capped cap n ≡ cap + 1))
+      go (inl t) = let h = leb-true n cap t in inl (h, capped-in n h)
+      go (inr t) = let h = leb-false n cap t in inr (h, capped-over n h)
 
-  pub capped-past : cap < c → cap < n
-  capped-past h = go (leb n cap) refl
-    where
-      go : (b : Bool) → leb n cap ≡ b → cap < n
-      go true t = absurd (omega (arith, e, capped-in cap n (leb-true n cap t), leb-true n cap t))
-      go false t = leb-false n cap t
+  -- what a caller knows of a count c once it has compared it with the cap
+  pub capped-exact : {c : ℕ} (n : ℕ) → c ≡ capped cap n → c ≤ cap → c ≡ n
+  capped-exact n e h = elim (capped-cases n) [ inl w ↦ e ∙ w .1 | inr w ↦ absurd (omega (arith, w .1)) ]
 
--- a count that goes on from a capped one
-pub capped-on : (cap a b : ℕ) → capped cap (capped cap a + b) ≡ capped cap (a + b)
-capped-on cap a b = go (leb a cap) refl
-  where
-    go : (t : Bool) → leb a cap ≡ t → capped cap (capped cap a + b) ≡ capped cap (a + b)
-    go true t = ap (λ (x : ℕ). capped cap (x + b)) (capped-in cap a (leb-true a cap t))
-    go false t = capped-over cap (capped cap a + b) (omega (arith, capped-over cap a (leb-false a cap t))) ∙ sym (capped-over cap (a + b) (omega (arith, leb-false a cap t)))
+  pub capped-past : {c : ℕ} (n : ℕ) → c ≡ capped cap n → cap < c → cap < n
+  capped-past n e h = elim (capped-cases n) [ inl w ↦ absurd (omega (arith, w)) | inr w ↦ w .0 ]
+
+  pub capped-small : (n : ℕ) → capped cap n ≤ cap + 1
+  capped-small n = elim (capped-cases n) [ inl w ↦ omega (arith, w) | inr w ↦ omega (arith, w) ]
+
+  -- a count that has stopped, or may go on, is its own
+  pub capped-still : (n : ℕ) → n ≤ cap + 1 → capped cap n ≡ n
+  capped-still n h = elim (capped-cases n) [ inl w ↦ w .1 | inr w ↦ w .1 ∙ omega (arith, w .0) ]
+
+  -- counting on from a count that may have stopped
+  pub capped-on : (n m : ℕ) → capped cap (capped cap n + m) ≡ capped cap (n + m)
+  capped-on n m = elim (capped-cases n) [ inl w ↦ ap (λ k. capped cap (k + m)) (w .1) | inr w ↦ capped-over (capped cap n + m) (omega (arith, w)) ∙ sym (capped-over (n + m) (omega (arith, w))) ]
+
+  -- a loop that leaves as soon as the count is past the cap
+  pub capped-stop : (n m : ℕ) → cap < capped cap n → capped cap n ≡ capped cap (n + m)
+  capped-stop n m h = let k = capped-past n refl h in capped-over n k ∙ sym (capped-over (n + m) (omega arith))

@@ -9,7 +9,8 @@ use lib.Dec.{eqb}
 use lib.ListN.{length, take, drop}
 use lib.Ieee.{Float}
 use Rattle.seqs.specs.Front.{Front, front-at, front-take}
-use Rattle.seqs.specs.Put.{put, put-room}
+use Rattle.seqs.specs.Slices.{put}
+use Rattle.seqs.specs.Wrote.{put-room}
 use Rattle.geom.specs.Outline.{points}
 use Rattle.geom.specs.OutlineLaws.{cornerAt}
 use Rattle.geom.specs.Line.{flat}

@@ -5,10 +5,10 @@ use mathlib.Core.Bool.{false}
 use mathlib.Core.List.{List, [], _∷_}
 use lib.IntN.{pos}
 use lib.Ieee.{Float, lt, le, eq, neg, add, sub, mul, div, ofInt, round, toUnsigned, odd, size, isNan}
-use Rattle.leaves.specs.Num.{real, literal}
-use Rattle.leaves.specs.Order.{negative, before, larger}
-use Rattle.leaves.specs.Whole.{wholeOf, ceil}
-use Rattle.leaves.specs.Root.{isqrt, nearRoot, rootUnits, root}
+use Rattle.numbers.specs.Num.{real, literal}
+use Rattle.numbers.specs.Order.{negative, before, larger}
+use Rattle.numbers.specs.Whole.{wholeOf, ceil}
+use Rattle.numbers.specs.Root.{isqrt, nearRoot, rootUnits, root}
 use Rattle.geom.specs.declared.point.P.{P}
 use Rattle.geom.specs.Point.{point, len, dist, lerp}
 use Rattle.geom.specs.Steps.{steps, along}

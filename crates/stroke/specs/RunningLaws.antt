@@ -10,7 +10,8 @@ use lib.ListN.{length, take, drop, getD, length-append, length-drop, length-reve
 use lib.Seq.{length-take-le, take-at}
 use lib.Ieee.{Float, nan}
 use Rattle.seqs.specs.Front.{Front, front-kept, next, none}
-use Rattle.seqs.specs.Put.{put, put-length, put-then}
+use Rattle.seqs.specs.Slices.{put}
+use Rattle.seqs.specs.Put.{put-length, put-then}
 use Rattle.seqs.specs.Reverse.{getD-reverse}
 use Rattle.geom.specs.declared.point.P.{P}
 use Rattle.geom.specs.Outline.{points}

@@ -2,8 +2,8 @@
 ghost use mathlib.Core.Path.{_≡_};
 ghost use Prim.Native.Nat.{_+_, _*_, _^_, _<_, _≤_};
 ghost use lib.ListN.{length};
-ghost use Rattle.seqs.specs.Put.{put};
-ghost use Rattle.seqs.specs.Capped.{capped};
+ghost use Rattle.seqs.specs.Slices.{put};
+ghost use Rattle.seqs.specs.Slices.{capped};
 ghost use Rattle.geom.specs.Outline.{points};
 ghost use Rattle.geom.specs.Line.{flat, resampleKeepCorners};
 ghost use Rattle.stroke.specs.Running.{base};

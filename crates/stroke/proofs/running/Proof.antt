@@ -40,7 +40,7 @@ returns-5 c =
     let one = onePass l (a .closed) (a .len) (a .passes) in
     let m = running l (a .closed) (a .len) (a .passes) in
     let s = running-length l (a .closed) (a .len) (a .passes) in
-    let past = capped-past (o / 2) (length one) (c .before .count-one .result) (c .before .count-one .ensures) (c .if5 .taken) in
+    let past = capped-past (o / 2) (length one) (c .before .count-one .ensures) (c .if5 .taken) in
     rw (sym (c .before .before .before .before .before .before .before .before .before .good-line .ensures) ∙ not-false _ (c .before .before .before .before .before .before .before .before .if1 .left), sym (c .before .before .before .before .before .before .before .good-numbers .ensures) ∙ not-false _ (c .before .before .before .before .before .before .if2 .left), sym (c .before .before .before .before .before .good-len .ensures) ∙ not-false _ (c .before .before .before .before .if3 .left), sym (c .before .before .before .good-passes .ensures) ∙ not-false _ (c .before .before .if4 .left), lt-leb (length (flat m)) o (omega (arith, past, s, flat-length m))) (refl, refl)
 
 count-passes-requires : tie.Need-count-passes-requires
@@ -55,10 +55,10 @@ returns-6 c =
     let one = onePass l (a .closed) (a .len) (a .passes) in
     let m = running l (a .closed) (a .len) (a .passes) in
     let s = running-length l (a .closed) (a .len) (a .passes) in
-    let n = capped-exact (o / 2) (length one) (c .before .before .before .count-one .result) (c .before .before .before .count-one .ensures) (c .before .before .if5 .left) in
+    let n = capped-exact (o / 2) (length one) (c .before .before .before .count-one .ensures) (c .before .before .if5 .left) in
     let total = c .before .before .before .count-one .result + (a .passes - 1) * (c .before .before .before .count-one .result - 1) in
     let t : total ≡ length m = rw n (sym s) in
-    let past = capped-past (o / 2) total (c .before .count-passes .result) (c .before .count-passes .ensures) (c .if6 .taken) in
+    let past = capped-past (o / 2) total (c .before .count-passes .ensures) (c .if6 .taken) in
     rw (sym (c .before .before .before .before .before .before .before .before .before .before .before .good-line .ensures) ∙ not-false _ (c .before .before .before .before .before .before .before .before .before .before .if1 .left), sym (c .before .before .before .before .before .before .before .before .before .good-numbers .ensures) ∙ not-false _ (c .before .before .before .before .before .before .before .before .if2 .left), sym (c .before .before .before .before .before .before .before .good-len .ensures) ∙ not-false _ (c .before .before .before .before .before .before .if3 .left), sym (c .before .before .before .before .before .good-passes .ensures) ∙ not-false _ (c .before .before .before .before .if4 .left), lt-leb (length (flat m)) o (omega (arith, past, t, flat-length m))) (refl, refl)
 
 put-one-requires : tie.Need-put-one-requires
@@ -69,7 +69,7 @@ put-one-requires c κs =
     let one = onePass l (a .closed) (a .len) (a .passes) in
     let m = running l (a .closed) (a .len) (a .passes) in
     let s = running-length l (a .closed) (a .len) (a .passes) in
-    let n = capped-exact (o / 2) (length one) (c .before .before .before .before .count-one .result) (c .before .before .before .before .count-one .ensures) (c .before .before .before .if5 .left) in
+    let n = capped-exact (o / 2) (length one) (c .before .before .before .before .count-one .ensures) (c .before .before .before .if5 .left) in
     omega (arith, n, c .before .before .before .if5 .left, flat-length one)
 
 put-passes-requires : tie.Need-put-passes-requires
@@ -80,10 +80,10 @@ put-passes-requires c κs =
     let one = onePass l (a .closed) (a .len) (a .passes) in
     let m = running l (a .closed) (a .len) (a .passes) in
     let s = running-length l (a .closed) (a .len) (a .passes) in
-    let n = capped-exact (o / 2) (length one) (c .before .before .before .before .before .before .before .before .count-one .result) (c .before .before .before .before .before .before .before .before .count-one .ensures) (c .before .before .before .before .before .before .before .if5 .left) in
+    let n = capped-exact (o / 2) (length one) (c .before .before .before .before .before .before .before .before .count-one .ensures) (c .before .before .before .before .before .before .before .if5 .left) in
     let total = c .before .before .before .before .before .before .before .before .count-one .result + (a .passes - 1) * (c .before .before .before .before .before .before .before .before .count-one .result - 1) in
     let t : total ≡ length m = rw n (sym s) in
-    let q = capped-exact (o / 2) total (c .before .before .before .before .before .before .count-passes .result) (c .before .before .before .before .before .before .count-passes .ensures) (c .before .before .before .before .before .if6 .left) in
+    let q = capped-exact (o / 2) total (c .before .before .before .before .before .before .count-passes .ensures) (c .before .before .before .before .before .if6 .left) in
     passes-room l (a .closed) (a .len) (a .passes) (a .out .now) _ (c .before .before .before .before .before .before .before .before .count-one .result) (c .before .before .before .put-one .ensures) n (omega (arith, q, t, c .before .before .before .before .before .if6 .left, flat-length m))
 
 returns-7 : tie.Need-returns-7
@@ -95,10 +95,10 @@ returns-7 c =
     let one = onePass l (a .closed) (a .len) (a .passes) in
     let m = running l (a .closed) (a .len) (a .passes) in
     let s = running-length l (a .closed) (a .len) (a .passes) in
-    let n = capped-exact (o / 2) (length one) (c .before .before .before .before .before .before .before .before .before .before .before .count-one .result) (c .before .before .before .before .before .before .before .before .before .before .before .count-one .ensures) (c .before .before .before .before .before .before .before .before .before .before .if5 .left) in
+    let n = capped-exact (o / 2) (length one) (c .before .before .before .before .before .before .before .before .before .before .before .count-one .ensures) (c .before .before .before .before .before .before .before .before .before .before .if5 .left) in
     let total = c .before .before .before .before .before .before .before .before .before .before .before .count-one .result + (a .passes - 1) * (c .before .before .before .before .before .before .before .before .before .before .before .count-one .result - 1) in
     let t : total ≡ length m = rw n (sym s) in
-    let q = capped-exact (o / 2) total (c .before .before .before .before .before .before .before .before .before .count-passes .result) (c .before .before .before .before .before .before .before .before .before .count-passes .ensures) (c .before .before .before .before .before .before .before .before .if6 .left) in
+    let q = capped-exact (o / 2) total (c .before .before .before .before .before .before .before .before .before .count-passes .ensures) (c .before .before .before .before .before .before .before .before .if6 .left) in
     let fits : length (flat m) ≤ o = omega (arith, q, t, c .before .before .before .before .before .before .before .before .if6 .left, flat-length m) in
     rw (sym (c .before .before .before .before .before .before .before .before .before .before .before .before .before .before .before .before .before .before .before .good-line .ensures) ∙ not-false _ (c .before .before .before .before .before .before .before .before .before .before .before .before .before .before .before .before .before .before .if1 .left), sym (c .before .before .before .before .before .before .before .before .before .before .before .before .before .before .before .before .before .good-numbers .ensures) ∙ not-false _ (c .before .before .before .before .before .before .before .before .before .before .before .before .before .before .before .before .if2 .left), sym (c .before .before .before .before .before .before .before .before .before .before .before .before .before .before .before .good-len .ensures) ∙ not-false _ (c .before .before .before .before .before .before .before .before .before .before .before .before .before .before .if3 .left), sym (c .before .before .before .before .before .before .before .before .before .before .before .before .before .good-passes .ensures) ∙ not-false _ (c .before .before .before .before .before .before .before .before .before .before .before .before .if4 .left), le-leb (length (flat m)) o fits) (rw (q, t), running-put l (a .closed) (a .len) (a .passes) (a .out .now) _ (c .before .before .before .before .before .before .before .before .before .before .before .count-one .result) (c .before .before .before .before .before .before .put-one .ensures) n fits _ (c .before .before .put-passes .ensures))
 

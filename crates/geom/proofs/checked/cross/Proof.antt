@@ -1,6 +1,6 @@
-use mathlib.Core.Path.{_≡_, ap}
+use mathlib.Core.Path.{ap}
 use lib.Ieee.{Float}
-use Rattle.refusal.specs.Refusal.{Answer, done}
+use Rattle.refusal.specs.Refusal.{done}
 use Rattle.geom.specs.Answers.{crossAnswer}
 use Rattle.geom.proofs.Checks.{passed, failed}
 use borrow.Author.Needs.{needs}

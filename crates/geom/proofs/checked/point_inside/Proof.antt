@@ -1,6 +1,6 @@
-use mathlib.Core.Path.{_≡_, ap}
+use mathlib.Core.Path.{ap}
 use mathlib.Core.Bool.{Bool}
-use Rattle.refusal.specs.Refusal.{Answer, done}
+use Rattle.refusal.specs.Refusal.{done}
 use Rattle.geom.specs.Answers.{pointInsideAnswer}
 use Rattle.geom.specs.LimitsLaws.{outline-layout}
 use Rattle.geom.proofs.Checks.{passed, failed}

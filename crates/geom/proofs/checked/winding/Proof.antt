@@ -1,8 +1,8 @@
-use mathlib.Core.Path.{_≡_, ap, _∙_}
+use mathlib.Core.Path.{ap, _∙_}
 use lib.IntN.{ℤ}
 use mir.Syntax.{w64}
 use mir.ValLaws.{toZ-ofZ}
-use Rattle.refusal.specs.Refusal.{Answer, done}
+use Rattle.refusal.specs.Refusal.{done}
 use Rattle.geom.specs.Answers.{windingAnswer}
 use Rattle.geom.specs.LimitsLaws.{outline-layout}
 use Rattle.geom.proofs.Checks.{passed, failed}

@@ -32,14 +32,14 @@ unfolding resampleRefusal resampleSewn resampleOutput
 returns-4 c =
     let a = c .before .before .before .before .before .before .before .before .before .before .args in
     let m = resampleKeepCorners (points (a .line .now)) (a .len) in
-    let past = capped-past (length (a .out .now) / 2) (length m) (c .before .count-line .result) (c .before .count-line .ensures) (c .if4 .taken) in
+    let past = capped-past (length (a .out .now) / 2) (length m) (c .before .count-line .ensures) (c .if4 .taken) in
     rw (sym (c .before .before .before .before .before .before .before .good-line .ensures) ∙ not-false _ (c .before .before .before .before .before .before .if1 .left), sym (c .before .before .before .before .before .good-numbers .ensures) ∙ not-false _ (c .before .before .before .before .if2 .left), sym (c .before .before .before .good-len .ensures) ∙ not-false _ (c .before .before .if3 .left), lt-leb (length (flat m)) (length (a .out .now)) (omega (arith, past, flat-length m))) (refl, refl)
 
 put-line-requires : tie.Need-put-line-requires
 put-line-requires c κs =
     let a = c .before .before .before .before .before .before .before .before .before .before .before .args in
     let m = resampleKeepCorners (points (a .line .now)) (a .len) in
-    let n = capped-exact (length (a .out .now) / 2) (length m) (c .before .before .count-line .result) (c .before .before .count-line .ensures) (c .before .if4 .left) in
+    let n = capped-exact (length (a .out .now) / 2) (length m) (c .before .before .count-line .ensures) (c .before .if4 .left) in
     omega (arith, n, c .before .if4 .left, flat-length m)
 
 returns-5 : tie.Need-returns-5
@@ -47,7 +47,7 @@ unfolding resampleRefusal resampleSewn resampleOutput
 returns-5 c =
     let a = c .before .before .before .before .before .before .before .before .before .before .before .before .before .before .args in
     let m = resampleKeepCorners (points (a .line .now)) (a .len) in
-    let n = capped-exact (length (a .out .now) / 2) (length m) (c .before .before .before .before .before .count-line .result) (c .before .before .before .before .before .count-line .ensures) (c .before .before .before .before .if4 .left) in
+    let n = capped-exact (length (a .out .now) / 2) (length m) (c .before .before .before .before .before .count-line .ensures) (c .before .before .before .before .if4 .left) in
     rw (sym (c .before .before .before .before .before .before .before .before .before .before .before .good-line .ensures) ∙ not-false _ (c .before .before .before .before .before .before .before .before .before .before .if1 .left), sym (c .before .before .before .before .before .before .before .before .before .good-numbers .ensures) ∙ not-false _ (c .before .before .before .before .before .before .before .before .if2 .left), sym (c .before .before .before .before .before .before .before .good-len .ensures) ∙ not-false _ (c .before .before .before .before .before .before .if3 .left), le-leb (length (flat m)) (length (a .out .now)) (omega (arith, n, c .before .before .before .before .if4 .left, flat-length m))) (rw n, c .before .before .put-line .ensures .0)
 
 pub resample-keep-corners-spec : {M : Type 1} → statement M

@@ -1,5 +1,5 @@
 use mathlib.Core.Path.{_≡_, sym, _∙_, ap}
-use Prim.Native.Nat.{ℕ, _+_, _-_, _≤_, _<_}
+use Prim.Native.Nat.{ℕ, _-_, _≤_}
 use Rattle.geom.specs.Outline.{rings}
 use Rattle.geom.specs.Inside.{stepsInside, segmentInside}
 use Rattle.geom.proofs.Loops.{steps-on, steps-out, steps-end}

@@ -1,4 +1,4 @@
-use mathlib.Core.Path.{_≡_, sym, _∙_}
+use mathlib.Core.Path.{sym, _∙_}
 use Rattle.geom.specs.Limits.{goodPoint}
 use borrow.Author.Needs.{needs}
 use Rattle.geom.proofs.limits.good_point.Statement.{statement}

@@ -3,7 +3,8 @@ use mathlib.Core.Path.{_≡_, sym, ap, _∙_}
 use Prim.Native.Nat.{_+_, _-_, _≤_}
 use native.Mathlib.Omega.{arith}
 use lib.ListN.{length, drop}
-use Rattle.seqs.specs.Capped.{capped, capped-in, capped-le, capped-on, capped-still}
+use Rattle.seqs.specs.Slices.{capped}
+use Rattle.seqs.specs.Capped.{capped-in, capped-small, capped-on, capped-still}
 use Rattle.geom.specs.Outline.{points}
 use Rattle.geom.specs.OutlineLaws.{cornerAt}
 use Rattle.geom.specs.Line.{piecesFrom, resampleKeepCorners}
@@ -32,7 +33,7 @@ loop-again c =
     let s = rw q at (c .before .piece-steps .ensures) in
     let e = count-next (a .line .now) (a .len) (l .p) (l .i) (search needs) in
     let k = length (piecesFrom (cornerAt (a .line .now) (l .i)) (points (drop (l .i + 2) (a .line .now))) (a .len)) in
-    (search needs, rw (c .add-within .ensures) (capped-le (a .room) _), rw (c .add-within .ensures, q) (capped-on (a .room) (l .c + c .before .piece-steps .result) k ∙ ap (capped (a .room)) (omega (arith, e, s)) ∙ l .inv .2))
+    (search needs, rw (c .add-within .ensures) (capped-small (a .room) _), rw (c .add-within .ensures, q) (capped-on (a .room) (l .c + c .before .piece-steps .result) k ∙ ap (capped (a .room)) (omega (arith, e, s)) ∙ l .inv .2))
 
 returns-2 : tie.Need-returns-2 Inv-loop μ-loop
 returns-2 c =

@@ -4,8 +4,8 @@ use Prim.Native.Nat.{_+_, _-_, _*_, _≤_}
 use native.Mathlib.Omega.{arith}
 use mathlib.Core.List.{_++_}
 use lib.ListN.{length, take}
-use Rattle.seqs.specs.Front.{Front, front-from}
-use Rattle.seqs.specs.Put.{put-end}
+use Rattle.seqs.specs.Front.{Front, front-from, front-at}
+use Rattle.seqs.specs.Wrote.{put-end}
 use Rattle.geom.specs.Line.{flat, stepsFrom}
 use Rattle.geom.specs.LineLaws.{flat-none, steps-size, steps-none}
 use Rattle.geom.proofs.LineSteps.{step-room, step-put}
@@ -45,7 +45,7 @@ returns : tie.Need-returns Inv-loop μ-loop
 returns c =
     let a = c .before .before .before .args in
     let l = c .before .loop in
-    let f = put-end (flat (stepsFrom (a .a) (a .b) (a .n) 1 (a .n))) (a .k) (flat-none (steps-none (a .a) (a .b) (a .n) (l .i) (search needs))) (omega (arith, c .before .before .before .pre)) (l .inv .3) in
+    let f = put-end (flat (stepsFrom (a .a) (a .b) (a .n) 1 (a .n))) (a .k) (omega (arith, c .before .before .before .pre)) (front-at (flat-none (steps-none (a .a) (a .b) (a .n) (l .i) (search needs))) (l .inv .3)) in
     (f .0, omega (arith, f .1, steps-size (a .a) (a .b) (a .n) 1 (a .n)))
 
 pub put-piece-spec : {M : Type 1} → statement M

@@ -4,8 +4,8 @@ use Prim.Native.Nat.{_+_, _-_, _≤_}
 use native.Mathlib.Omega.{arith}
 use mathlib.Core.List.{_++_}
 use lib.ListN.{length, take, drop}
-use Rattle.seqs.specs.Front.{Front, front-from}
-use Rattle.seqs.specs.Put.{put-end}
+use Rattle.seqs.specs.Front.{Front, front-from, front-at}
+use Rattle.seqs.specs.Wrote.{put-end}
 use Rattle.geom.specs.Outline.{points}
 use Rattle.geom.specs.Line.{flat, piecesFrom, pieces}
 use Rattle.geom.specs.LineLaws.{flat-none, pieces-start, pieces-end}
@@ -47,7 +47,7 @@ returns : tie.Need-returns Inv-loop μ-loop
 returns c =
     let a = c .before .before .before .before .before .args in
     let l = c .before .loop in
-    put-end (flat (pieces (points (a .line .now)) (a .len))) (a .k) (flat-none (pieces-end (a .line .now) (a .len) (l .p) (l .i) (search needs))) (omega (arith, c .before .before .before .before .before .pre .1)) (l .inv .1)
+    put-end (flat (pieces (points (a .line .now)) (a .len))) (a .k) (omega (arith, c .before .before .before .before .before .pre .1)) (front-at (flat-none (pieces-end (a .line .now) (a .len) (l .p) (l .i) (search needs))) (l .inv .1))
 
 pub put-pieces-spec : {M : Type 1} → statement M
 put-pieces-spec =

@@ -1,7 +1,8 @@
 use mathlib.Core.Path.{_≡_, sym, ap, _∙_}
 use Prim.Native.Nat.{_+_}
 use lib.ListN.{length, length-append}
-use Rattle.seqs.specs.Capped.{capped, capped-on}
+use Rattle.seqs.specs.Slices.{capped}
+use Rattle.seqs.specs.Capped.{capped-on}
 use Rattle.geom.specs.Outline.{points}
 use Rattle.geom.specs.Line.{resampleKeepCorners}
 use Rattle.stroke.specs.Closing.{closing, resample-base}

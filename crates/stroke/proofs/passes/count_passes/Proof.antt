@@ -3,7 +3,8 @@ use mathlib.Core.Path.{_≡_, refl, sym, ap, _∙_}
 use Prim.Native.Nat.{_+_, _-_, _*_, _≤_}
 use native.Mathlib.Omega.{arith}
 use native.Mathlib.Nat.{mul-zero}
-use Rattle.seqs.specs.Capped.{capped, capped-in, capped-le, capped-on, capped-still}
+use Rattle.seqs.specs.Slices.{capped}
+use Rattle.seqs.specs.Capped.{capped-in, capped-small, capped-on, capped-still}
 use Rattle.stroke.proofs.PassSteps.{passes-left, passes-done}
 use borrow.Author.Needs.{needs}
 use Rattle.stroke.proofs.passes.count_passes.Statement.{statement}
@@ -26,7 +27,7 @@ loop-again c =
     let a = c .before .before .before .before .args in
     let l = c .before .before .loop in
     let s = a .n - 1 in
-    (rw (c .add-within .ensures) (capped-le (a .room) (l .c + s)), rw (c .add-within .ensures) (capped-on (a .room) (l .c + s) ((a .passes - (l .t + 1)) * s) ∙ ap (capped (a .room)) (omega (arith, passes-left (l .t) (a .passes) s (search needs))) ∙ l .inv .1))
+    (rw (c .add-within .ensures) (capped-small (a .room) (l .c + s)), rw (c .add-within .ensures) (capped-on (a .room) (l .c + s) ((a .passes - (l .t + 1)) * s) ∙ ap (capped (a .room)) (omega (arith, passes-left (l .t) (a .passes) s (search needs))) ∙ l .inv .1))
 
 returns-2 : tie.Need-returns-2 Inv-loop μ-loop
 returns-2 c =

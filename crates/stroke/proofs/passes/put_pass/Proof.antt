@@ -5,8 +5,8 @@ use Prim.Native.Nat.{_+_, _-_, _*_, _≤_}
 use native.Mathlib.Omega.{arith}
 use mathlib.Core.List.{List, [], _∷_, _++_}
 use lib.ListN.{length, take, drop}
-use Rattle.seqs.specs.Front.{Front, front-from}
-use Rattle.seqs.specs.Put.{put-end}
+use Rattle.seqs.specs.Front.{Front, front-from, front-at}
+use Rattle.seqs.specs.Wrote.{put-end}
 use Rattle.geom.specs.Line.{flat}
 use Rattle.geom.specs.LineLaws.{flat-none, flat-length}
 use Rattle.stroke.specs.Running.{pass, standing}
@@ -61,7 +61,7 @@ returns c =
     let a = c .before .before .before .args in
     let l = c .before .loop in
     let one = standing (a .out .now) (a .n) in
-    let f = put-end (flat (pass one (a .back))) (a .k) (flat-none (pass-none (a .out .now) (a .n) (omega (arith, c .before .before .before .pre)) (a .back) (l .r) (search needs))) (omega (arith, c .before .before .before .pre)) (l .inv .2) in
+    let f = put-end (flat (pass one (a .back))) (a .k) (omega (arith, c .before .before .before .pre)) (front-at (flat-none (pass-none (a .out .now) (a .n) (omega (arith, c .before .before .before .pre)) (a .back) (l .r) (search needs))) (l .inv .2)) in
     (f .0, omega (arith, f .1, flat-length (pass one (a .back)), pass-length one (a .back), standing-length (a .out .now) (a .n) (omega (arith, c .before .before .before .pre))))
 
 pub put-pass-spec : {M : Type 1} → statement M

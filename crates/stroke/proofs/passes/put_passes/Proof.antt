@@ -4,8 +4,8 @@ use Prim.Native.Nat.{_+_, _-_, _*_, _≤_}
 use native.Mathlib.Omega.{arith}
 use mathlib.Core.List.{List, [], _∷_, _++_}
 use lib.ListN.{length, take, drop}
-use Rattle.seqs.specs.Front.{Front, front-from}
-use Rattle.seqs.specs.Put.{put-end}
+use Rattle.seqs.specs.Front.{Front, front-from, front-at}
+use Rattle.seqs.specs.Wrote.{put-end}
 use Rattle.geom.specs.Line.{flat}
 use Rattle.geom.specs.LineLaws.{flat-none}
 use Rattle.stroke.specs.Running.{passesFrom, standing}
@@ -46,7 +46,7 @@ returns c =
     let a = c .before .before .before .args in
     let l = c .before .loop in
     let one = standing (a .out .now) (a .n) in
-    put-end (flat (passesFrom one 1 (a .passes - 1))) (2 * a .n) (flat-none (passes-none one (l .pass) (a .passes) (search needs))) (omega (arith, c .before .before .before .pre)) (l .inv .1) .0
+    put-end (flat (passesFrom one 1 (a .passes - 1))) (2 * a .n) (omega (arith, c .before .before .before .pre)) (front-at (flat-none (passes-none one (l .pass) (a .passes) (search needs))) (l .inv .1)) .0
 
 pub put-passes-spec : {M : Type 1} → statement M
 put-passes-spec =
