@@ -1,7 +1,8 @@
--- What the contracts of `geom` cite (Point, Outline, Winding, Steps, Inside, Limits, Answers), and what is proved of it.
+-- What the contracts of `geom` cite (Point, Outline, Winding, Runs, Steps, Inside, Limits, Answers), and what is proved of it.
 pub mod Point
 pub mod Outline
 pub mod Winding
+pub mod Runs
 pub mod Steps
 pub mod Inside
 pub mod Limits
@@ -9,4 +10,5 @@ pub mod Answers
 pub mod OutlineLaws
 pub mod WindingLaws
 pub mod LimitsLaws
+pub mod AnswersLaws
 pub mod Ks
