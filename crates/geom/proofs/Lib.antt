@@ -1,3 +1,4 @@
 mod Checks
 mod Loops
 mod Parity
+mod LineSteps

@@ -1,7 +1,9 @@
-// Points, outlines and winding: geom.rs. The cores take every f64, NaN and infinities too.
+// Points, outlines, winding and lines: geom.rs. The cores take every f64, NaN and infinities too.
 pub mod checked;
+pub mod checked_line;
 pub mod inside;
 pub mod limits;
+pub mod line;
 pub mod point;
 pub mod rule;
 pub mod steps;

@@ -16,3 +16,9 @@ pub const SIZE: u64 = 5;
 pub const WORK: u64 = 6;
 // An output slice below the answer.
 pub const ROOM: u64 = 7;
+
+// What a call that sews says: a number of the table, and how many points stand at the front of its output, none after a refusal.
+pub struct Sewn {
+    pub answer: u64,
+    pub points: u64,
+}

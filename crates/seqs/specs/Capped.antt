@@ -36,6 +36,10 @@ module _ (cap : ℕ) where
   pub capped-small : (n : ℕ) → capped cap n ≤ cap + 1
   capped-small n = elim (capped-cases n) [ inl w ↦ omega (arith, w) | inr w ↦ omega (arith, w) ]
 
+  -- a count that has stopped, or may go on, is its own
+  pub capped-still : (n : ℕ) → n ≤ cap + 1 → capped cap n ≡ n
+  capped-still n h = elim (capped-cases n) [ inl w ↦ w .1 | inr w ↦ w .1 ∙ omega (arith, w .0) ]
+
   -- counting on from a count that may have stopped
   pub capped-on : (n m : ℕ) → capped cap (capped cap n + m) ≡ capped cap (n + m)
   capped-on n m = elim (capped-cases n) [ inl w ↦ ap (λ k. capped cap (k + m)) (w .1) | inr w ↦ capped-over (capped cap n + m) (omega (arith, w)) ∙ sym (capped-over (n + m) (omega (arith, w))) ]

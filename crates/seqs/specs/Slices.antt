@@ -17,9 +17,12 @@ module _ {ℓ} {A : Type ℓ} where
     pub kept : take k d′ ≡ take k d
     pub is : k + length m ≤ length d → d′ ≡ (take k d ++ m) ++ drop (k + length m) d
 
-  -- d′ is d with m from k on
+  -- d with m from k on
+  abbrev pub put : List A → ℕ → List A → List A
+  put d k m = (take k d ++ m) ++ drop (length (take k d ++ m)) d
+
   abbrev pub Put : List A → List A → ℕ → List A → Type ℓ
-  Put d d′ k m = d′ ≡ (take k d ++ m) ++ drop (length (take k d ++ m)) d
+  Put d d′ k m = d′ ≡ put d k m
 
   -- m stored at k, k + 1, ..: on a list that is written out, the stores themselves
   abbrev pub storesFrom : List A → ℕ → ℕ → List A → List A

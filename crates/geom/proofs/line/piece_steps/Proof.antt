@@ -1,0 +1,17 @@
+use mathlib.Core.Path.{_≡_, _∙_}
+use Rattle.geom.specs.Line.{pieceSteps}
+use Rattle.geom.specs.LineLaws.{shortest-bits}
+use borrow.Author.Needs.{needs}
+use Rattle.geom.proofs.line.piece_steps.Statement.{statement}
+use Rattle.geom.proofs.line.piece_steps.Tie as tie
+
+returns : tie.Need-returns
+unfolding pieceSteps
+returns c = rw (shortest-bits, ← c .before .dist .ensures, c .if1 .taken)
+
+returns-2 : tie.Need-returns-2
+unfolding pieceSteps
+returns-2 c = rw (shortest-bits, ← c .before .before .dist .ensures, c .before .if1 .left) (c .steps .ensures)
+
+pub piece-steps-spec : {M : Type 1} → statement M
+piece-steps-spec = tie.close (tie.spec (λ c κs. search needs) returns (λ c κs. search needs) returns-2)

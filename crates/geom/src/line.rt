@@ -1,0 +1,140 @@
+// A line of corners: its length, and the stitches along it that keep every corner.
+ghost use mathlib.Core.Path.{_≡_};
+ghost use mathlib.Core.List.{[], _∷_};
+ghost use Prim.Native.Nat.{_+_, _*_, _^_, _<_, _≤_};
+ghost use lib.ListN.{length};
+ghost use Rattle.seqs.specs.Slices.{put};
+ghost use Rattle.seqs.specs.Slices.{capped};
+ghost use Rattle.geom.specs.Outline.{points};
+ghost use Rattle.geom.specs.OutlineLaws.{cornerAt};
+ghost use Rattle.geom.specs.Line.{flat, polylineLength, pieceSteps, stepsFrom, pieces, resampleKeepCorners};
+use crate::point::P;
+use crate::steps::along;
+use crate::steps::steps;
+
+// The corner at place i.
+pub fn corner(s: &[f64], i: usize) -> P
+    requires { ⌜ i + 1 < length (now s) ⌝ }
+    ensures { λ r. ⌜ r ≡ cornerAt (now (s .entry)) i ⌝ }
+{
+    P {
+        x: s[i],
+        y: s[i + 1],
+    }
+}
+
+pub fn polyline_length(line: &[f64]) -> f64
+    ensures { λ r. ⌜ r ≡ polylineLength (points (now (line .entry))) ⌝ }
+{
+    if line.len() < 2 {
+        return 0.0;
+    }
+    let mut sum = 0.0;
+    let mut p = corner(line, 0);
+    let mut i = 2;
+    while i + 1 < line.len() {
+        let q = corner(line, i);
+        sum = sum + p.dist(q);
+        p = q;
+        i += 2;
+    }
+    sum
+}
+
+// How many stitches lead from a to b: none where the piece is skipped.
+pub fn piece_steps(a: P, b: P, len: f64) -> u64
+    ensures { λ r. ⌜ r ≡ pieceSteps a b len ⌝ }
+{
+    let d = a.dist(b);
+    if d < 1e-9 {
+        return 0;
+    }
+    steps(d, len)
+}
+
+// c + s, or room + 1 where that passes the room.
+pub fn add_within(c: u64, s: u64, room: u64) -> u64
+    requires { ⌜ room < 2 ^ 63 ⌝ }
+    ensures { λ r. ⌜ r ≡ capped room (c + s) ⌝ }
+{
+    if c > room {
+        return room + 1;
+    }
+    if s > room - c {
+        return room + 1;
+    }
+    c + s
+}
+
+// How many points the resampled line has, or room + 1 where they pass the room.
+pub fn count_line(line: &[f64], len: f64, room: u64) -> u64
+    requires { ⌜ room < 2 ^ 63 ⌝ }
+    ensures { λ r. ⌜ r ≡ capped room (length (resampleKeepCorners (points (now (line .entry))) len)) ⌝ }
+{
+    if line.len() < 2 {
+        return 0;
+    }
+    let mut p = corner(line, 0);
+    let mut c: u64 = 1;
+    let mut i = 2;
+    while i + 1 < line.len() {
+        let q = corner(line, i);
+        c = add_within(c, piece_steps(p, q, len), room);
+        p = q;
+        i += 2;
+    }
+    c
+}
+
+// The point p from `at` on.
+pub fn put_point(out: &mut [f64], at: usize, p: P)
+    requires { ⌜ at + 1 < length (now out) ⌝ }
+    ensures { λ _. ⌜ now (out .exit) ≡ put (now (out .entry)) at (flat (p ∷ [])) ⌝ }
+{
+    out[at] = p.x;
+    out[at + 1] = p.y;
+}
+
+// The ends of the n steps from a to b, from k on; answers the place after them.
+pub fn put_piece(out: &mut [f64], k: usize, a: P, b: P, n: u64) -> usize
+    requires { ⌜ k + 2 * n ≤ length (now out) ⌝ }
+    ensures { λ r. ⌜ (now (out .exit) ≡ put (now (out .entry)) k (flat (stepsFrom a b n 1 n))) × (r ≡ k + 2 * n) ⌝ }
+{
+    let mut at = k;
+    let mut i: u64 = 1;
+    while i <= n {
+        put_point(out, at, along(a, b, n, i));
+        at += 2;
+        i += 1;
+    }
+    at
+}
+
+// All points after the first corner, from k on; answers the place after them.
+fn put_pieces(out: &mut [f64], k: usize, line: &[f64], len: f64) -> usize
+    requires { ⌜ (1 < length (now line)) × (k + length (flat (pieces (points (now line)) len)) ≤ length (now out)) ⌝ }
+    ensures { λ r. ⌜ (now (out .exit) ≡ put (now (out .entry)) k (flat (pieces (points (now (line .entry))) len))) × (r ≡ k + length (flat (pieces (points (now (line .entry))) len))) ⌝ }
+{
+    let mut p = corner(line, 0);
+    let mut at = k;
+    let mut i = 2;
+    while i + 1 < line.len() {
+        let q = corner(line, i);
+        at = put_piece(out, at, p, q, piece_steps(p, q, len));
+        p = q;
+        i += 2;
+    }
+    at
+}
+
+// The resampled line from k on; answers the place after it.
+pub fn put_line(out: &mut [f64], k: usize, line: &[f64], len: f64) -> usize
+    requires { ⌜ k + length (flat (resampleKeepCorners (points (now line)) len)) ≤ length (now out) ⌝ }
+    ensures { λ r. ⌜ (now (out .exit) ≡ put (now (out .entry)) k (flat (resampleKeepCorners (points (now (line .entry))) len))) × (r ≡ k + length (flat (resampleKeepCorners (points (now (line .entry))) len))) ⌝ }
+{
+    if line.len() < 2 {
+        return k;
+    }
+    put_point(out, k, corner(line, 0));
+    put_pieces(out, k + 2, line, len)
+}

@@ -1,0 +1,6 @@
+-- What the contracts of `stroke` cite (Running, RunningAnswers, Closing), and what is proved of it.
+pub mod Running
+pub mod RunningAnswers
+pub mod Closing
+pub mod RunningLaws
+pub mod Ks
