@@ -1,7 +1,8 @@
--- What the contracts of `geom` cite (Point, Outline, Winding, Steps, Inside, Line, Limits, Answers, LineAnswers), and what is proved of it.
+-- What the contracts of `geom` cite (Point, Outline, Winding, Runs, Steps, Inside, Line, Limits, Answers, LineAnswers), and what is proved of it.
 pub mod Point
 pub mod Outline
 pub mod Winding
+pub mod Runs
 pub mod Steps
 pub mod Inside
 pub mod Line
@@ -12,4 +13,5 @@ pub mod OutlineLaws
 pub mod WindingLaws
 pub mod LineLaws
 pub mod LimitsLaws
+pub mod AnswersLaws
 pub mod Ks
