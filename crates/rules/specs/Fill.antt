@@ -235,6 +235,10 @@ rowList rings rule g bottomUp =
 unfoldable pub section : List Entry → ℕ → List Entry
 section es s = sift (λ e. eqb (e .section) s) es
 
+-- every section, by number
+unfoldable pub sections : List Entry → List (List Entry)
+sections es = map (section es) (upto 0 (begun es))
+
 -- ---- stitches
 
 -- stagger 0 counts as 1
@@ -285,8 +289,6 @@ sew g (p ∷ ps) = p ∷ sewFrom g p ps
 unfoldable pub sewn : Settings → ℕ → List Entry → List P
 sewn g stagger es = map (λ p. rotate p (g .cosine) (g .sine)) (sew g (each (rowPoints g stagger) es))
 
--- tatami: one list of points for each section
+-- tatami: the points of each section of the row list
 unfoldable pub tatami : List (List P) → FillRule → Settings → ℕ → Bool → List (List P)
-tatami rings rule g stagger bottomUp =
-    let es = rowList rings rule g bottomUp in
-    map (λ s. sewn g stagger (section es s)) (upto 0 (begun es))
+tatami rings rule g stagger bottomUp = map (sewn g stagger) (sections (rowList rings rule g bottomUp))

@@ -3,3 +3,5 @@ pub mod Standin
 pub mod Fill
 pub mod Calls
 pub mod Ks
+pub mod Sections
+pub mod FillSections
