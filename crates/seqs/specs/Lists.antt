@@ -2,7 +2,7 @@
 -- A permutation is the kit's `List·Permᴰ`, a chain of neighbours the kit's `IsChain`, a member the kit's `List·Memᴰ` (mathlib.Core.List).
 use mathlib.Core.Path.{_≡_}
 use mathlib.Core.Bool.{Bool, true, false, _&&_, cond}
-use mathlib.Core.List.{List, [], _∷_, _++_}
+use mathlib.Core.List.{List, [], _∷_, _++_, List·Permᴰ}
 use Prim.Native.Nat.{ℕ, zero, suc, _+_}
 use lib.Dec.{leb}
 
@@ -67,6 +67,13 @@ module _ {ℓ} {A : Type ℓ} where
 abbrev pub byKey {ℓ} : {B : Type ℓ} → (B → B → Bool) → (ℕ → B) → ℕ → ℕ → Bool
 byKey before key i j = cond (before (key i) (key j)) true (cond (before (key j) (key i)) false (leb i j))
 
+-- a sweep over rows: a row holds those of the row before that go on, and those that wait, from the first on, once they have started
+abbrev pub sweepBy {ℓ κ} : {A : Type ℓ} {Y : Type κ} → (Y → A → Bool) → (Y → A → Bool) → (Y → List A → List A) → List A → List A → List Y → List (List A)
+sweepBy starts lives order active waiting [] = []
+sweepBy starts lives order active waiting (y ∷ ys) =
+    let row = order y (sift (lives y) active ++ sift (lives y) (takeWhile (starts y) waiting)) in
+    row ∷ sweepBy starts lives order row (dropWhile (starts y) waiting) ys
+
 -- ---- what holds of a list
 
 module _ {ℓ κ} {A : Type ℓ} where
@@ -88,3 +95,14 @@ module _ {ℓ} {A : Type ℓ} where
     pub total : (a b : A) → le a b ≡ false → le b a ≡ true
     pub trans : (a b c : A) → le a b ≡ true → le b c ≡ true → le a c ≡ true
     pub same : (a b : A) → le a b ≡ true → le b a ≡ true → a ≡ b
+
+  -- f puts a list in an order that doesn't depend on how its elements came
+  pub record Sorts (f : List A → List A) : Type ℓ where
+    pub perm : (l : List A) → List·Permᴰ (f l) l
+    pub same : {l m : List A} → List·Permᴰ l m → f l ≡ f m
+
+-- no two keys before each other, and keys level only where they are one
+pub record Keyed {ℓ} {B : Type ℓ} (before : B → B → Bool) (key : ℕ → B) : Type ℓ where
+  pub one-way : (i j : ℕ) → before (key i) (key j) ≡ true → before (key j) (key i) ≡ false
+  pub trans : (i j k : ℕ) → before (key i) (key j) ≡ true → before (key j) (key k) ≡ true → before (key i) (key k) ≡ true
+  pub level : (i j : ℕ) → before (key i) (key j) ≡ false → before (key j) (key i) ≡ false → key i ≡ key j
