@@ -4,9 +4,15 @@ pub mod Root
 pub mod Order
 pub mod Whole
 pub mod Answer
+pub mod Value
+pub mod Units
+pub mod Fraction
+pub mod FloatOrder
 pub mod OrderLaws
+pub mod Choice
 pub mod WholeLaws
+pub mod Rounded
 pub mod RootLaws
 pub mod Encode
 pub mod Decode
-pub mod Correct
+pub mod RootNearest

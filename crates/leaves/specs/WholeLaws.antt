@@ -36,7 +36,7 @@ neg-units f q k = go (ltb (q * 2 ^ k) (2 ^ (lib.Ieee.low f + suc (lib.Ieee.emax 
     go true = neg-odd (suc (lib.Ieee.prec f)) q k (lib.Ieee.low f)
     go false = refl
 
-neg-round : (f : Format) (a d : ℕ) → neg (round f false a d) ≡ round f true a d
+pub neg-round : (f : Format) (a d : ℕ) → neg (round f false a d) ≡ round f true a d
 neg-round f a d = ap neg (round-is f false a d) ∙ neg-units f _ _ ∙ sym (round-is f true a d)
 
 signed : (s : Bool) (a : ℕ) → cond s (neg (round binary64 false a 1)) (round binary64 false a 1) ≡ round binary64 s a 1
