@@ -5,3 +5,5 @@ pub mod Calls
 pub mod Ks
 pub mod Sections
 pub mod FillSections
+pub mod Sweep
+pub mod SweepLaws
