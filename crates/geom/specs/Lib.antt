@@ -1,3 +1,4 @@
--- What the contracts of `geom` cite (Point, Outline), and what is proved of it.
+-- What the contracts of `geom` cite (Point, Outline, Winding), and what is proved of it.
 pub mod Point
 pub mod Outline
+pub mod OutlineLaws
