@@ -1,0 +1,4 @@
+-- What the contracts of `sections` cite, and its laws.
+pub mod Mark
+pub mod MarkLaws
+pub mod MarkEntries

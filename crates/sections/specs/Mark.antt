@@ -1,0 +1,96 @@
+-- The marks of a row by place: what the code works out, said of the slices. Definitions only.
+use Prim.Native.Nat.{ℕ, zero, suc, _+_, _-_, _*_, _≤_, _<_}
+use mathlib.Core.Path.{_≡_}
+use mathlib.Core.Bool.{Bool, cond, _&&_}
+use mathlib.Core.List.{List, [], _∷_, _++_}
+use lib.Dec.{eqb}
+use lib.IntN.{pos}
+use lib.ListN.{length, getD}
+use lib.Ieee.{Float, nan}
+use Rattle.seqs.specs.Lists.{upto, sift, each}
+use Rattle.geom.specs.declared.point.P.{P}
+use Rattle.rules.specs.Standin.{FillRule}
+use Rattle.rules.specs.declared.Settings.{Settings}
+use Rattle.rules.specs.declared.Piece.{Piece}
+use Rattle.rules.specs.declared.Entry.{Entry}
+use Rattle.rules.specs.Fill.{overlap, connects}
+use Rattle.sections.specs.declared.Found.{Found}
+use Rattle.sections.specs.declared.Found.the-variants.{At, Nothing}
+use Rattle.sections.specs.declared.Mark.{Mark}
+use Rattle.sections.specs.declared.Row.{Row}
+
+-- the piece at place i, its row's number left out, and the entry at place t of n
+abbrev pub pieceIn : List Float → ℕ → Piece
+pieceIn l i = record { k = pos 0; y = getD l (3 * i) nan; xa = getD l (3 * i + 1) nan; xb = getD l (3 * i + 2) nan }
+
+abbrev pub entryIn : List Float → List ℕ → ℕ → ℕ → Entry
+entryIn l w n t = record { piece = pieceIn l t; section = getD w (n + 2 * t) 0; nth = getD w (n + 2 * t + 1) 0 }
+
+-- the places from i up to n that pass
+abbrev pub hits : (ℕ → Bool) → ℕ → ℕ → List ℕ
+hits p i n = sift p (upto i (n - i))
+
+-- the piece at t overlaps p; o overlaps the piece at j
+abbrev pub over : List Float → Piece → ℕ → Bool
+over l p t = overlap (pieceIn l t) p
+
+abbrev pub under : List Float → Piece → ℕ → Bool
+under l o j = overlap o (pieceIn l j)
+
+-- the first of them
+abbrev pub Hit : (ℕ → Bool) → ℕ → ℕ → Found → Type 0
+Hit p i n (At t) = (hits p i n ≡ t ∷ hits p (t + 1) n) × (t < n) × (i ≤ t)
+Hit p i n Nothing = hits p i n ≡ []
+
+unfoldable pub countOf : (ℕ → Bool) → ℕ → ℕ → ℕ
+countOf p i n = length (hits p i n)
+
+abbrev pub onlyAt : List ℕ → Found
+onlyAt [] = Nothing
+onlyAt (a ∷ []) = At a
+onlyAt (a ∷ b ∷ l) = Nothing
+
+-- what the slices have room for
+pub record Ranges (s : Row) (l : List Float) (w : List ℕ) : Type 0 where
+  pub opens : s .b0 ≤ s .r0
+  pub row : s .r0 ≤ s .r1
+  pub all : s .r1 ≤ s .n
+  pub floats : 3 * s .n ≤ length l
+  pub marks : 3 * s .n ≤ length w
+
+module _ (rings : List (List P)) (rule : FillRule) (g : Settings) (l : List Float) (w : List ℕ) (s : Row) where
+  -- of the one open place that the piece at j overlaps: that place, where no other piece of this row overlaps it and the link is inside
+  abbrev pub joinedAt : ℕ → Found → Found
+  joinedAt j Nothing = Nothing
+  joinedAt j (At t) = cond (eqb (countOf (under l (pieceIn l t)) (s .r0) (s .r1)) 1 && connects rings rule g (entryIn l w (s .n) t) (pieceIn l j)) (At t) Nothing
+
+  unfoldable pub joinsAt : ℕ → Found
+  joinsAt j = joinedAt j (onlyAt (hits (over l (pieceIn l j)) (s .b0) (s .r0)))
+
+  abbrev pub markBy : ℕ → Found → Mark
+  markBy new Nothing = record { section = new; nth = 0 }
+  markBy new (At t) = record { section = getD w (s .n + 2 * t) 0; nth = getD w (s .n + 2 * t + 1) 0 + 1 }
+
+  -- the mark of the piece at j, where a new section gets the number `new`
+  unfoldable pub markAt : ℕ → ℕ → Mark
+  markAt new j = markBy new (joinsAt j)
+
+abbrev pub afterAt : ℕ → Mark → ℕ
+afterAt new m = cond (eqb (m .nth) 0) (new + 1) new
+
+abbrev pub flatMark : Mark → List ℕ
+flatMark m = m .section ∷ m .nth ∷ []
+
+module _ (rings : List (List P)) (rule : FillRule) (g : Settings) (l : List Float) (w : List ℕ) (s : Row) where
+  -- the marks of the pieces from j on, `left` of them, and the number that the next new section gets
+  unfoldable pub rowMarks : ℕ → ℕ → ℕ → List ℕ
+  rowMarks new j zero = []
+  rowMarks new j (suc left) = let m = markAt rings rule g l w s new j in flatMark m ++ rowMarks (afterAt new m) (j + 1) left
+
+  unfoldable pub rowNew : ℕ → ℕ → ℕ → ℕ
+  rowNew new j zero = new
+  rowNew new j (suc left) = rowNew (afterAt new (markAt rings rule g l w s new j)) (j + 1) left
+
+-- the marks of a list of entries
+abbrev pub flatMarks : List Entry → List ℕ
+flatMarks es = each (λ e. e .section ∷ e .nth ∷ []) es

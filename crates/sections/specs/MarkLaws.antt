@@ -1,0 +1,37 @@
+-- Laws of the places that marking goes through. Assumes nothing.
+use Prim.Native.Nat.{ℕ, zero, suc, _+_, _-_, _*_, _≤_, _<_}
+use native.Mathlib.Omega.{arith}
+use mathlib.Core.Path.{_≡_, refl, sym, ap, _∙_}
+use mathlib.Core.Bool.{Bool, true, false, cond}
+use mathlib.Core.List.{List, [], _∷_, _++_}
+use lib.ListN.{length}
+use Rattle.seqs.specs.Lists.{keepIf, upto}
+use Rattle.seqs.specs.Reads.{left, left-none}
+use Rattle.sections.specs.Mark.{hits, Hit, countOf}
+use Rattle.sections.specs.declared.Found.{Found}
+use Rattle.sections.specs.declared.Found.the-variants.{At, Nothing}
+
+module _ (p : ℕ → Bool) (i n : ℕ) where
+  pub hits-next : i < n → hits p i n ≡ keepIf (p i) i (hits p (i + 1) n)
+  hits-next h = rw (left n i h)
+
+  pub hits-none : n ≤ i → hits p i n ≡ []
+  hits-none h = rw (left-none n i h)
+
+  pub hit-at : {r : Found} {t : ℕ} → r ≡ At t → Hit p i n r → (hits p i n ≡ t ∷ hits p (t + 1) n) × (t < n) × (i ≤ t)
+  hit-at e h = rw e at h
+
+  pub hit-none : {r : Found} → r ≡ Nothing → Hit p i n r → hits p i n ≡ []
+  hit-none e h = rw e at h
+
+  pub count-kept : i < n → p i ≡ true → countOf p i n ≡ suc (countOf p (i + 1) n)
+  unfolding countOf
+  count-kept h t = ap length (rw t at (hits-next h))
+
+  pub count-passed : i < n → p i ≡ false → countOf p i n ≡ countOf p (i + 1) n
+  unfolding countOf
+  count-passed h t = ap length (rw t at (hits-next h))
+
+  pub count-none : n ≤ i → countOf p i n ≡ 0
+  unfolding countOf
+  count-none h = ap length (hits-none h)

@@ -1,0 +1,97 @@
+// Sections: every piece of the row list gets its mark, its section's number and its place in that section.
+// Pieces stand as blocks of three floats (y, xa, xb). Of the whole numbers the first n are the pieces' rows, and the marks
+// come after them, as blocks of two.
+ghost use mathlib.Core.Path.{_≡_};
+ghost use mathlib.Core.List.{List};
+ghost use Prim.Native.Nat.{_+_, _-_, _*_, _≤_, _<_};
+ghost use lib.ListN.{length};
+ghost use Rattle.seqs.specs.Slices.{Wrote};
+ghost use Rattle.rules.specs.Fill.{overlap};
+ghost use Rattle.sections.specs.Mark.{pieceIn, entryIn, over, under, Hit, countOf, Ranges, joinsAt, markAt, afterAt, flatMark, rowMarks, rowNew};
+use rules::Entry;
+use rules::Piece;
+
+pub enum Found {
+    At(usize),
+    Nothing,
+}
+
+pub struct Mark {
+    pub section: usize,
+    pub nth: usize,
+}
+
+// Where a row lies: of n pieces, the row before from b0 to r0, this one from r0 to r1.
+pub struct Row {
+    pub n: usize,
+    pub b0: usize,
+    pub r0: usize,
+    pub r1: usize,
+}
+
+// The piece at place i. Its row's number plays no part here.
+fn piece_at(pieces: &[f64], i: usize) -> Piece
+    requires { ⌜ 3 * i + 2 < length (now pieces) ⌝ }
+    ensures { λ r. ⌜ r ≡ pieceIn (now (pieces .entry)) i ⌝ }
+{
+    let k = 3 * i;
+    Piece {
+        k: 0,
+        y: pieces[k],
+        xa: pieces[k + 1],
+        xb: pieces[k + 2],
+    }
+}
+
+fn overlap(last: Piece, next: Piece) -> bool
+    ensures { λ r. ⌜ r ≡ overlap last next ⌝ }
+{
+    if last.xa < next.xb {
+        return next.xa < last.xb;
+    }
+    false
+}
+
+// The first place from `from` on, before `to`, whose piece p overlaps.
+fn find(pieces: &[f64], from: usize, to: usize, p: Piece) -> Found
+    requires { ⌜ (from ≤ to) × (3 * to ≤ length (now pieces)) ⌝ }
+    ensures { λ r. ⌜ Hit (over (now (pieces .entry)) p) from to r ⌝ }
+{
+    let mut i = from;
+    while i < to {
+        if overlap(piece_at(pieces, i), p) {
+            return Found::At(i);
+        }
+        i += 1;
+    }
+    Found::Nothing
+}
+
+// How many of the pieces from `from` up to `to` o overlaps.
+fn count_over(pieces: &[f64], from: usize, to: usize, o: Piece) -> usize
+    requires { ⌜ (from ≤ to) × (3 * to ≤ length (now pieces)) ⌝ }
+    ensures { λ r. ⌜ r ≡ countOf (under (now (pieces .entry)) o) from to ⌝ }
+{
+    let mut c = 0;
+    let mut i = from;
+    while i < to {
+        if overlap(o, piece_at(pieces, i)) {
+            c += 1;
+        }
+        i += 1;
+    }
+    c
+}
+
+// The piece at place t with its mark.
+fn entry_at(pieces: &[f64], wholes: &[usize], n: usize, t: usize) -> Entry
+    requires { ⌜ (3 * t + 2 < length (now pieces)) × (n + 2 * t + 1 < length (now wholes)) ⌝ }
+    ensures { λ r. ⌜ r ≡ entryIn (now (pieces .entry)) (now (wholes .entry)) n t ⌝ }
+{
+    let k = n + 2 * t;
+    Entry {
+        piece: piece_at(pieces, t),
+        section: wholes[k] as u64,
+        nth: wholes[k + 1] as u64,
+    }
+}
