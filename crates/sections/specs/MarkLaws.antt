@@ -2,11 +2,17 @@
 use Prim.Native.Nat.{ℕ, zero, suc, _+_, _-_, _*_, _≤_, _<_}
 use native.Mathlib.Omega.{arith}
 use mathlib.Core.Path.{_≡_, refl, sym, ap, _∙_}
-use mathlib.Core.Bool.{Bool, true, false, cond}
+use mathlib.Core.Bool.{Bool, true, false, cond, _&&_}
 use mathlib.Core.List.{List, [], _∷_, _++_}
 use lib.ListN.{length}
 use Rattle.seqs.specs.Lists.{keepIf, upto}
 use Rattle.seqs.specs.Reads.{left, left-none}
+use Rattle.geom.specs.declared.point.P.{P}
+use Rattle.rules.specs.Standin.{FillRule}
+use Rattle.rules.specs.declared.Settings.{Settings}
+use Rattle.rules.specs.declared.Piece.{Piece}
+use Rattle.rules.specs.declared.Entry.{Entry}
+use Rattle.rules.specs.Fill.{linkEnds, linkInside, connects}
 use Rattle.sections.specs.Mark.{hits, Hit, countOf}
 use Rattle.sections.specs.declared.Found.{Found}
 use Rattle.sections.specs.declared.Found.the-variants.{At, Nothing}
@@ -35,3 +41,10 @@ module _ (p : ℕ → Bool) (i n : ℕ) where
   pub count-none : n ≤ i → countOf p i n ≡ 0
   unfolding countOf
   count-none h = ap length (hits-none h)
+
+-- the three points of a link, from its two ends
+pub three : (rings : List (List P)) (rule : FillRule) (g : Settings) (o : Entry) (next : Piece) {a b : P} {r s t : Bool}
+    → a ≡ linkEnds o next .0 → b ≡ linkEnds o next .1 → r ≡ linkInside rings rule g (a, b) 1 → s ≡ linkInside rings rule g (a, b) 2 → t ≡ linkInside rings rule g (a, b) 3
+    → (r && s && t) ≡ connects rings rule g o next
+unfolding connects
+three rings rule g o next p q x y z = (λ i. x i && y i && z i) ∙ (λ i. linkInside rings rule g (p i, q i) 1 && linkInside rings rule g (p i, q i) 2 && linkInside rings rule g (p i, q i) 3)

@@ -6,10 +6,17 @@ ghost use mathlib.Core.List.{List};
 ghost use Prim.Native.Nat.{_+_, _-_, _*_, _≤_, _<_};
 ghost use lib.ListN.{length};
 ghost use Rattle.seqs.specs.Slices.{Wrote};
-ghost use Rattle.rules.specs.Fill.{overlap};
+ghost use Rattle.geom.specs.Outline.{rings, Layout};
+ghost use Rattle.rules.specs.Fill.{overlap, linkEnds, linkInside, connects};
 ghost use Rattle.sections.specs.Mark.{pieceIn, entryIn, over, under, Hit, countOf, Ranges, joinsAt, markAt, afterAt, flatMark, rowMarks, rowNew};
+use geom::FillRule;
+use geom::P;
+use geom::winding::winding;
+use leaves::of_u64;
+use leaves::smaller;
 use rules::Entry;
 use rules::Piece;
+use rules::Settings;
 
 pub enum Found {
     At(usize),
@@ -94,4 +101,63 @@ fn entry_at(pieces: &[f64], wholes: &[usize], n: usize, t: usize) -> Entry
         section: wholes[k] as u64,
         nth: wholes[k + 1] as u64,
     }
+}
+
+// The way from an open section's last piece to the next.
+pub struct Link {
+    pub from: P,
+    pub to: P,
+}
+
+// A section whose last piece has an even place ends at xb. Both ends are moved inward by eps.
+fn link_ends(o: Entry, next: Piece) -> Link
+    ensures { λ r. ⌜ (r .from ≡ linkEnds o next .0) × (r .to ≡ linkEnds o next .1) ⌝ }
+{
+    let last = o.piece;
+    let eps = smaller(smaller(1.0, (last.xb - last.xa) * 0.25), (next.xb - next.xa) * 0.25);
+    if o.nth % 2 == 0 {
+        return Link {
+            from: P {
+                x: last.xb + -1.0 * eps,
+                y: last.y,
+            },
+            to: P {
+                x: next.xb + -1.0 * eps,
+                y: next.y,
+            },
+        };
+    }
+    Link {
+        from: P {
+            x: last.xa + 1.0 * eps,
+            y: last.y,
+        },
+        to: P {
+            x: next.xa + 1.0 * eps,
+            y: next.y,
+        },
+    }
+}
+
+// Point k of four on the way, turned back, is inside.
+fn link_inside(corners: &[f64], ends: &[usize], rule: FillRule, g: Settings, link: Link, k: u64) -> bool
+    requires { ⌜ Layout (now corners) (now ends) ⌝ }
+    ensures { λ r. ⌜ r ≡ linkInside (rings (now (corners .entry)) (now (ends .entry))) rule g (link .from, link .to) k ⌝ }
+{
+    let q = link.from.lerp(link.to, of_u64(k) / 4.0).rotate(g.cosine, g.sine);
+    rule.inside(winding(corners, ends, q))
+}
+
+// Three points of the link are inside.
+fn connects(corners: &[f64], ends: &[usize], rule: FillRule, g: Settings, o: Entry, next: Piece) -> bool
+    requires { ⌜ Layout (now corners) (now ends) ⌝ }
+    ensures { λ r. ⌜ r ≡ connects (rings (now (corners .entry)) (now (ends .entry))) rule g o next ⌝ }
+{
+    let link = link_ends(o, next);
+    if link_inside(corners, ends, rule, g, link, 1) {
+        if link_inside(corners, ends, rule, g, link, 2) {
+            return link_inside(corners, ends, rule, g, link, 3);
+        }
+    }
+    false
 }
