@@ -58,6 +58,11 @@ pub record Ranges (s : Row) (l : List Float) (w : List ℕ) : Type 0 where
   pub floats : 3 * s .n ≤ length l
   pub marks : 3 * s .n ≤ length w
 
+-- a place before r
+abbrev pub Before : Found → ℕ → Type 0
+Before (At t) r = t < r
+Before Nothing r = Unit {0}
+
 module _ (rings : List (List P)) (rule : FillRule) (g : Settings) (l : List Float) (w : List ℕ) (s : Row) where
   -- of the one open place that the piece at j overlaps: that place, where no other piece of this row overlaps it and the link is inside
   abbrev pub joinedAt : ℕ → Found → Found

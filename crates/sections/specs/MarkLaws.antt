@@ -4,7 +4,9 @@ use native.Mathlib.Omega.{arith}
 use mathlib.Core.Path.{_≡_, refl, sym, ap, _∙_}
 use mathlib.Core.Bool.{Bool, true, false, cond, _&&_}
 use mathlib.Core.List.{List, [], _∷_, _++_}
+use lib.Dec.{eqb}
 use lib.ListN.{length}
+use lib.Ieee.{Float}
 use Rattle.seqs.specs.Lists.{keepIf, upto}
 use Rattle.seqs.specs.Reads.{left, left-none}
 use Rattle.geom.specs.declared.point.P.{P}
@@ -13,7 +15,8 @@ use Rattle.rules.specs.declared.Settings.{Settings}
 use Rattle.rules.specs.declared.Piece.{Piece}
 use Rattle.rules.specs.declared.Entry.{Entry}
 use Rattle.rules.specs.Fill.{linkEnds, linkInside, connects}
-use Rattle.sections.specs.Mark.{hits, Hit, countOf}
+use Rattle.sections.specs.Mark.{hits, Hit, countOf, over, under, pieceIn, entryIn, joinedAt, joinsAt}
+use Rattle.sections.specs.declared.Row.{Row}
 use Rattle.sections.specs.declared.Found.{Found}
 use Rattle.sections.specs.declared.Found.the-variants.{At, Nothing}
 
@@ -48,3 +51,20 @@ pub three : (rings : List (List P)) (rule : FillRule) (g : Settings) (o : Entry)
     → (r && s && t) ≡ connects rings rule g o next
 unfolding connects
 three rings rule g o next p q x y z = (λ i. x i && y i && z i) ∙ (λ i. linkInside rings rule g (p i, q i) 1 && linkInside rings rule g (p i, q i) 2 && linkInside rings rule g (p i, q i) 3)
+
+module _ (rings : List (List P)) (rule : FillRule) (g : Settings) (l : List Float) (w : List ℕ) (s : Row) (j : ℕ) where
+  -- the open places that the piece at j overlaps
+  abbrev pub near : ℕ → Bool
+  near = over l (pieceIn l j)
+
+  pub joins-none : hits near (s .b0) (s .r0) ≡ [] → joinsAt rings rule g l w s j ≡ Nothing
+  unfolding joinsAt
+  joins-none e = rw e
+
+  pub joins-many : {t u : ℕ} {m : List ℕ} → hits near (s .b0) (s .r0) ≡ t ∷ hits near (t + 1) (s .r0) → hits near (t + 1) (s .r0) ≡ u ∷ m → joinsAt rings rule g l w s j ≡ Nothing
+  unfolding joinsAt
+  joins-many e f = rw (e, f)
+
+  pub joins-one : {t : ℕ} → hits near (s .b0) (s .r0) ≡ t ∷ hits near (t + 1) (s .r0) → hits near (t + 1) (s .r0) ≡ [] → joinsAt rings rule g l w s j ≡ joinedAt rings rule g l w s j (At t)
+  unfolding joinsAt
+  joins-one e f = rw (e, f)

@@ -8,7 +8,7 @@ ghost use lib.ListN.{length};
 ghost use Rattle.seqs.specs.Slices.{Wrote};
 ghost use Rattle.geom.specs.Outline.{rings, Layout};
 ghost use Rattle.rules.specs.Fill.{overlap, linkEnds, linkInside, connects};
-ghost use Rattle.sections.specs.Mark.{pieceIn, entryIn, over, under, Hit, countOf, Ranges, joinsAt, markAt, afterAt, flatMark, rowMarks, rowNew};
+ghost use Rattle.sections.specs.Mark.{pieceIn, entryIn, over, under, Hit, countOf, Ranges, Before, joinsAt, markAt, afterAt, flatMark, rowMarks, rowNew};
 use geom::FillRule;
 use geom::P;
 use geom::winding::winding;
@@ -160,4 +160,36 @@ fn connects(corners: &[f64], ends: &[usize], rule: FillRule, g: Settings, o: Ent
         }
     }
     false
+}
+
+// What all rows of a fill share.
+pub struct Fill {
+    pub rule: FillRule,
+    pub settings: Settings,
+}
+
+// The open place that the piece at j joins, if there is one.
+fn joins(corners: &[f64], ends: &[usize], f: Fill, pieces: &[f64], wholes: &[usize], s: Row, j: usize) -> Found
+    requires { ⌜ Layout (now corners) (now ends) × Ranges s (now pieces) (now wholes) × (j < s .r1) ⌝ }
+    ensures { λ r. ⌜ (r ≡ joinsAt (rings (now (corners .entry)) (now (ends .entry))) (f .rule) (f .settings) (now (pieces .entry)) (now (wholes .entry)) s j) × Before r (s .r0) ⌝ }
+{
+    let p = piece_at(pieces, j);
+    let r0 = s.r0;
+    let a = find(pieces, s.b0, r0, p);
+    let Found::At(t) = a else {
+        return Found::Nothing;
+    };
+    let b = find(pieces, t + 1, r0, p);
+    let Found::Nothing = b else {
+        return Found::Nothing;
+    };
+    let o = entry_at(pieces, wholes, s.n, t);
+    if count_over(pieces, r0, s.r1, piece_at(pieces, t)) != 1 {
+        return Found::Nothing;
+    }
+    let rule = f.rule;
+    if connects(corners, ends, rule, f.settings, o, p) {
+        return Found::At(t);
+    }
+    Found::Nothing
 }
