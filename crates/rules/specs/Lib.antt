@@ -1,5 +1,6 @@
 -- What a fill is (Fill), what its calls answer and leave (Calls), and what is proved of both.
 pub mod Standin
+pub mod SizesStandin
 pub mod Fill
 pub mod Calls
 pub mod Ks
@@ -7,3 +8,5 @@ pub mod Sections
 pub mod FillSections
 pub mod Sweep
 pub mod SweepLaws
+pub mod Accepted
+pub mod Bounds
