@@ -12,12 +12,13 @@ use Rattle.refusal.specs.Refusal.{DONE}
 use Rattle.leaves.specs.Num.{_⊕_, _⊗_, literal, half}
 use Rattle.leaves.specs.Order.{finite, magnitude}
 use Rattle.seqs.specs.Lists.{All}
-use Rattle.seqs.specs.All.{all-map, all-take, all-drop}
+use Rattle.seqs.specs.All.{all-map, all-take}
 use Rattle.seqs.specs.Tests.{and-both}
 use Rattle.seqs.specs.Each.{every-all}
 use Rattle.geom.specs.declared.point.P.{P}
 use Rattle.geom.specs.Outline.{points, cut, rings}
 use Rattle.rules.specs.Standin.{layout, numbers}
+use Rattle.rules.specs.Alls.{all-drop}
 use Rattle.rules.specs.declared.Settings.{Settings}
 use Rattle.rules.specs.Fill.{edges, rowNumbers}
 use Rattle.rules.specs.Calls.{within, settings, turns, gate}

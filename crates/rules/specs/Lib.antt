@@ -1,6 +1,5 @@
 -- What a fill is (Fill), what its calls answer and leave (Calls), and what is proved of both.
 pub mod Standin
-pub mod SizesStandin
 pub mod Fill
 pub mod Calls
 pub mod Ks
@@ -8,5 +7,7 @@ pub mod Sections
 pub mod FillSections
 pub mod Sweep
 pub mod SweepLaws
+pub mod Alls
 pub mod Accepted
-pub mod Bounds
+pub mod Turn
+pub mod Edges
