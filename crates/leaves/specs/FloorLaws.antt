@@ -10,6 +10,7 @@ use lib.Dec.{T, lit<}
 use lib.Ieee.{Float, nan, inf, fin, binary64, up, down, round, fits, le, isNan}
 use lib.Ieee.Fits.{down-pos}
 use lib.Ieee.Nearest.{div-mono}
+use Rattle.leaves.specs.Num.{zero64}
 use Rattle.leaves.specs.Order.{negative, finite}
 use Rattle.leaves.specs.Whole.{part, wholeOf, floor, ceil}
 use Rattle.leaves.specs.Value.{unitsOf, valueOf, IsFloor, IsCeil}
@@ -79,7 +80,7 @@ ceil-fits x = whole-fits (not (negative x)) x
 
 -- ---- the order
 -- the least whole number from a / d on
-away-least : (a d q : ℕ) → 0 < d → a ≤ q * d → part true a d ≤ q
+pub away-least : (a d q : ℕ) → 0 < d → a ≤ q * d → part true a d ≤ q
 away-least a d q D h = under (part true a d) q (lt-of-mul-lt-mul-right d (lt-of-lt-of-le (part-away a d D .1) (le-trans (near h) (le-of-eq (sym (native.Mathlib.Nat.suc-mul q d))))))
   where
     near : a ≤ q * d → a + d ≤ q * d + d
@@ -153,6 +154,15 @@ floor-mono x y h = whole-mono (λ b. b) x y h
 pub ceil-mono : (x y : Float) → T (le x y) → T (le (ceil x) (ceil y))
 unfolding ceil
 ceil-mono x y h = whole-mono not x y h
+
+-- never negative where x is not
+pub floor-up : (x : Float) → T (le zero64 x) → T (le zero64 (floor x))
+unfolding floor
+floor-up x h = floor-mono zero64 x h
+
+pub ceil-up : (x : Float) → T (le zero64 x) → T (le zero64 (ceil x))
+unfolding ceil
+ceil-up x h = ceil-mono zero64 x h
 
 pub floor-le : (x : Float) → T (fits binary64 x) → T (not (isNan x)) → T (le (floor x) x)
 unfolding floor negative finite

@@ -39,7 +39,7 @@ part-away a d D = go (eqb (a % d) 0) (eqb→eq (a % d) 0) refl
         some (suc n) f = omega arith
 
 -- ---- the result, in units
-value-units : (v : Float) (s : Bool) (q : ℕ) → HasValue v s q 1 → (unitsOf v ≡ q * 2 ^ 1074) × (negative v ≡ s) × T (finite v)
+pub value-units : (v : Float) (s : Bool) (q : ℕ) → HasValue v s q 1 → (unitsOf v ≡ q * 2 ^ 1074) × (negative v ≡ s) × T (finite v)
 unfolding unitsOf negative finite
 value-units nan s q h = absurd h
 value-units (inf t) s q h = absurd h

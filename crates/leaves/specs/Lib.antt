@@ -15,6 +15,9 @@ pub mod Rounded
 pub mod Monotone
 pub mod Floors
 pub mod FloorLaws
+pub mod Bounds
+pub mod RootBounds
+pub mod CastLaws
 pub mod RootLaws
 pub mod Encode
 pub mod Decode
