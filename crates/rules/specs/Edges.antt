@@ -25,7 +25,7 @@ use Rattle.leaves.specs.Rounded.{Rounded, rounded-le, sub-rounded}
 use Rattle.leaves.specs.Choice.{magnitude-is}
 use Rattle.leaves.specs.WholeLaws.{neg-round}
 use Rattle.leaves.specs.Monotone.{sub-mono, sub-up, at-least-zero}
-use Rattle.leaves.specs.Bounds.{within-finite, within-more, within-neg, within-le, within-add, within-sub, within-mul, within-div, within-round, within-literal, atleast-le, atleast-above}
+use Rattle.leaves.specs.Bounds.{within-finite, within-more, within-neg, within-le, within-magnitude, within-add, within-sub, within-mul, within-div, within-round, within-literal, atleast-le, atleast-above}
 use Rattle.seqs.specs.Lists.{each, All}
 use Rattle.seqs.specs.All.{all-map}
 use Rattle.geom.specs.declared.point.P.{P}
@@ -173,9 +173,9 @@ steep (fin t n c) (fin false m e) w a k f =
       many = many;
       under = size-lt u;
       slope =
-        rw (ne-eqb m 0 z)
-        (within-round (1095 - size u) (unlike t false) (n * up c * down e) (m * up e * down c) (omega arith) (mul-pos (mul-pos (pos-of m z) (up-pos e)) (down-pos c))
-        (le-trans (mul-le-mul-right (down e) w) (le-trans (le-of-eq (swap (2 ^ 20) (down c) (down e))) (le-trans (mul-le-mul-right (down c) g) (le-of-eq (mul-assoc (2 ^ (1095 - size u)) (m * up e) (down c)))))));
+          rw (ne-eqb m 0 z)
+          (within-round (1095 - size u) (unlike t false) (n * up c * down e) (m * up e * down c) (omega arith) (mul-pos (mul-pos (pos-of m z) (up-pos e)) (down-pos c))
+          (le-trans (mul-le-mul-right (down e) w) (le-trans (le-of-eq (swap (2 ^ 20) (down c) (down e))) (le-trans (mul-le-mul-right (down c) g) (le-of-eq (mul-assoc (2 ^ (1095 - size u)) (m * up e) (down c)))))));
     }
   where
     swap : (a b c : ℕ) → a * b * c ≡ a * c * b
@@ -189,7 +189,7 @@ steep (fin t n c) (fin false m e) w a k f =
       where
         go : (b : Bool) → (T b → 1045 ≤ s) → (T (not b) → s < 1045) → 1045 ≤ s
         go true f g = f tt
-        go false f g = let l = g tt in absurd (lt-irrefl (2 ^ 1044) (lt-of-lt-of-le h (pow-mono (omega arith))))
+        go false f g = let l = g tt in absurd (lt-irrefl (2 ^ 1044) (lt-of-lt-of-le h (pow-mono {i = s} {j = 1044} (omega arith))))
 
 -- t is finite, and at most u units in size
 Most : ℕ → Float → Type 0
@@ -232,6 +232,19 @@ most (fin r k c) (fin s m e) ft t0 th fh fits h0 =
         (omega (arith, rw (over-all r (k * up c) z, over-all s (m * up e) y, z, y) at l)) is
 
 -- ---- edges
+
+so : {b : Bool} → b ≡ true → T b
+so e = subst T (sym e) tt
+
+pub within-number : (n : ℕ) (x : Float) → Within n x → T (not (isNan x))
+unfolding Within isNan
+within-number n nan h = h
+within-number n (inf s) h = tt
+within-number n (fin s m e) h = tt
+
+-- a test that failed
+not-lt-le : (x y : Float) → T (not (isNan x)) → T (not (isNan y)) → lt x y ≡ false → T (le y x)
+not-lt-le x y p q e = elim (le-or-lt y x q p) [ inl h ↦ h | inr h ↦ absurd (subst T e h) ]
 
 -- a corner once turned
 abbrev pub Near : P → Type 0
@@ -283,9 +296,54 @@ kept-good a b p q = go (lt (magnitude (a .y ⊖ b .y)) (literal 1 (10 ^ 9))) ref
     keep m = side (lt (a .y) (b .y)) refl
       where
         side : (t : Bool) → lt (a .y) (b .y) ≡ t → All Good (cond t (edgeOf a b true ∷ []) (edgeOf b a false ∷ []))
-        side true e = ?
-        side false e = ?
+        side true e =
+            let h = up-down (a .y) (b .y) fa fb (lt-le (a .y) (b .y) (so e)) in
+            (edge-good a b true p q (high (magnitude (a .y ⊖ b .y)) (b .y ⊖ a .y) m h (within-finite 20 (b .y ⊖ a .y) (within-sub 19 (b .y) (a .y) (lit≤ tt) (q .1) (p .1)))), tt)
+        side false e =
+            let h = up-up (b .y) (a .y) fb fa (not-lt-le (a .y) (b .y) (within-number 19 (a .y) (p .1)) (within-number 19 (b .y) (q .1)) e) in
+            (edge-good b a false q p (high (magnitude (a .y ⊖ b .y)) (a .y ⊖ b .y) m h (within-finite 20 (a .y ⊖ b .y) (within-sub 19 (a .y) (b .y) (lit≤ tt) (p .1) (q .1)))), tt)
 
     go : (t : Bool) → lt (magnitude (a .y ⊖ b .y)) (literal 1 (10 ^ 9)) ≡ t → All Good (cond t [] (cond (lt (a .y) (b .y)) (edgeOf a b true ∷ []) (edgeOf b a false ∷ [])))
     go true e = tt
-    go false e = keep ?
+    go false e = keep (not-lt-le (magnitude (a .y ⊖ b .y)) (literal 1 (10 ^ 9)) (within-number 20 (magnitude (a .y ⊖ b .y)) (within-magnitude 20 (a .y ⊖ b .y) (within-sub 19 (a .y) (b .y) (lit≤ tt) (p .1) (q .1)))) (within-number 30 (literal 1 (10 ^ 9)) (within-literal 30 1 (10 ^ 9) (lit≤ tt) (lit< tt) (lit≤ tt))) e)
+
+-- ---- the fill's edges
+
+module _ (outline : List (List P)) (g : Settings) (cyc : ℕ) (ok : Checked outline g cyc) where
+  pub turn : Within 1 (g .cosine) × Within 1 (g .sine)
+  turn = turn-within (g .cosine) (g .sine) (ok .cosine) (ok .sine) (ok .unit)
+
+  small : (x : Float) → T (le (magnitude x) (literal 100000 1)) → Within 17 x
+  small x h = within-le 17 x (literal 100000 1) h (within-literal 17 100000 1 (lit≤ tt) (lit< tt) (lit≤ tt))
+
+  turned-near : (p : P) → Corner p → Near (rotate p (g .cosine) (neg (g .sine)))
+  turned-near p h =
+      let x = small (p .x) (h .0) in
+      let y = small (p .y) (h .1) in
+      let c = turn .0 in
+      let s = within-neg 1 (g .sine) (turn .1) in (
+        within-sub 18 (p .x ⊗ g .cosine) (p .y ⊗ neg (g .sine)) (lit≤ tt) (within-mul 17 1 (p .x) (g .cosine) (lit≤ tt) x c) (within-mul 17 1 (p .y) (neg (g .sine)) (lit≤ tt) y s),
+        within-add 18 (p .x ⊗ neg (g .sine)) (p .y ⊗ g .cosine) (lit≤ tt) (within-mul 17 1 (p .x) (neg (g .sine)) (lit≤ tt) x s) (within-mul 17 1 (p .y) (g .cosine) (lit≤ tt) y c),
+      )
+
+  sides-to : (z : P) (l : List P) → Near z → All Near l → All (λ ab. Near (ab .0) × Near (ab .1)) (sidesTo z l)
+  unfolding sidesTo
+  sides-to z [] h k = tt
+  sides-to z (a ∷ []) h k = ((k .0, h), tt)
+  sides-to z (a ∷ b ∷ r) h k = ((k .0, k .1 .0), sides-to z (b ∷ r) h (k .1))
+
+  sides-near : (l : List P) → All Near l → All (λ ab. Near (ab .0) × Near (ab .1)) (sides l)
+  unfolding sides
+  sides-near [] k = tt
+  sides-near (a ∷ []) k = tt
+  sides-near (a ∷ b ∷ []) k = tt
+  sides-near (a ∷ b ∷ c ∷ r) k = sides-to a (a ∷ b ∷ c ∷ r) (k .0) k
+
+  -- every kept edge is good
+  pub edges-good : All Good (edges g outline)
+  unfolding edges turned
+  edges-good =
+      all-parts (All Corner) Good (λ ring. each keptSide (sides (map (λ p. rotate p (g .cosine) (neg (g .sine))) ring)))
+      (λ ring h. all-parts (λ ab. Near (ab .0) × Near (ab .1)) Good keptSide (λ ab k. kept-good (ab .0) (ab .1) (k .0) (k .1)) (sides (map (λ p. rotate p (g .cosine) (neg (g .sine))) ring))
+      (sides-near (map (λ p. rotate p (g .cosine) (neg (g .sine))) ring) (all-mapped Corner Near (λ p. rotate p (g .cosine) (neg (g .sine))) turned-near ring h)))
+      outline (ok .corners)

@@ -79,6 +79,7 @@ turn-within c s f g r =
     let hi = literal 1000001 1000000 in
     let sum = c ⊗ c ⊕ s ⊗ s in
     let near = within-between 1 lo sum hi (r .least) (r .most) (within-literal 1 999999 1000000 (lit≤ tt) (lit< tt) (lit≤ tt)) (within-literal 1 1000001 1000000 (lit≤ tt) (lit< tt) (lit≤ tt)) in
-    let q = sum-finite (c ⊗ c) (s ⊗ s) (within-finite 1 sum near) in
-    (root-within c f (le-trans (c ⊗ c) sum hi (add-up (c ⊗ c) (s ⊗ s) (mul-fits binary64 c c) (q .0) (q .1) (square-up s g)) (r .most)),
-    root-within s g (le-trans (s ⊗ s) sum hi (add-up-left (s ⊗ s) (c ⊗ c) (mul-fits binary64 s s) (q .1) (q .0) (square-up c f)) (r .most)))
+    let q = sum-finite (c ⊗ c) (s ⊗ s) (within-finite 1 sum near) in (
+      root-within c f (le-trans (c ⊗ c) sum hi (add-up (c ⊗ c) (s ⊗ s) (mul-fits binary64 c c) (q .0) (q .1) (square-up s g)) (r .most)),
+      root-within s g (le-trans (s ⊗ s) sum hi (add-up-left (s ⊗ s) (c ⊗ c) (mul-fits binary64 s s) (q .1) (q .0) (square-up c f)) (r .most)),
+    )
