@@ -87,12 +87,16 @@ module _ (corners : List Float) (ends : List ℕ) (g : Settings) (stagger : ℕ)
       let three = passed (settings g stagger) 2 _ (two .1) in
       let four = passed (turns g) 3 _ (three .1) in
       let many = few (ltb 4096 (length (rowNumbers g (edges g (rings corners ends))))) 4 (four .1) in
-      let s5 = and-both _ _ (three .0) in
-      let s4 = and-both _ _ (s5 .0) in
-      let s3 = and-both _ _ (s4 .0) in
-      let s2 = and-both _ _ (s3 .0) in
-      let t3 = and-both _ _ (four .0) in
-      let t2 = and-both _ _ (t3 .0) in
+      let w1 = within half (literal 1000 1) (g .spacing) in
+      let w2 = within (literal 1 1) (literal 1000 1) (g .len) in
+      let w3 = within (neg (literal 100 1)) (literal 100 1) (g .inset) in
+      let w4 = within (neg (literal 100 1)) (literal 100 1) (g .pull) in
+      let s5 = and-both (w1 && w2 && w3 && w4) (leb stagger 1000) (three .0) in
+      let s4 = and-both (w1 && w2 && w3) w4 (s5 .0) in
+      let s3 = and-both (w1 && w2) w3 (s4 .0) in
+      let s2 = and-both w1 w2 (s3 .0) in
+      let t3 = and-both (finite (g .cosine) && finite (g .sine)) (within (literal 999999 1000000) (literal 1000001 1000000) (g .cosine ⊗ g .cosine ⊕ g .sine ⊗ g .sine)) (four .0) in
+      let t2 = and-both (finite (g .cosine)) (finite (g .sine)) (t3 .0) in
       record {
         corners = all-cut 0 ends (points corners) (all-points corners (all-map (λ x h. so h) corners (every-all (λ x. le (magnitude x) (literal 100000 1)) corners (two .0))));
         spacing = range half (literal 1000 1) (g .spacing) (s2 .0);

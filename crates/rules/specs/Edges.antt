@@ -11,7 +11,7 @@ use borrow.Author.Tests.{ne-eqb}
 use lib.Pow.{pow-pos, pow-add, pow-mono}
 use lib.IntN.{ℤ, pos, negsuc}
 use lib.Ieee.{Float, nan, inf, fin, binary64, up, down, round, mul, div, neg, fits, le, lt, isNan, size, unlike}
-use lib.Ieee.Fits.{down-pos, up-pos, sub-fits}
+use lib.Ieee.Fits.{down-pos, up-pos, add-fits, sub-fits}
 use lib.Ieee.Digits.{size-lt, size-le, size-reaches}
 use lib.Ieee.Positive.{den, den-pos}
 use Rattle.leaves.specs.Num.{_⊕_, _⊖_, _⊗_, _⊘_, literal, zero64}
@@ -248,10 +248,11 @@ not-lt-le x y p q e = elim (le-or-lt y x q p) [ inl h ↦ h | inr h ↦ absurd (
 
 -- a corner once turned
 abbrev pub Near : P → Type 0
-Near p = Within 19 (p .x) × Within 19 (p .y)
+Near p = Within 19 (p .x) × Within 19 (p .y) × T (fits binary64 (p .y))
 
 -- a kept edge: its numbers, and its run over a part of its height
 pub record Good (e : Edge) : Type 0 where
+  pub fit : T (fits binary64 (e .y0))
   pub y0 : Within 19 (e .y0)
   pub y1 : Within 19 (e .y1)
   pub x0 : Within 19 (e .x0)
@@ -267,6 +268,7 @@ edge-good top bot falls p q a =
     let wd : Within 20 d = within-sub 19 (bot .x) (top .x) (lit≤ tt) (q .0) (p .0) in
     let s = steep d h wd a wh (sub-fits binary64 (bot .y) (top .y)) in
     record {
+      fit = p .2;
       y0 = p .1;
       y1 = q .1;
       x0 = p .0;
@@ -324,6 +326,7 @@ module _ (outline : List (List P)) (g : Settings) (cyc : ℕ) (ok : Checked outl
       let s = within-neg 1 (g .sine) (turn .1) in (
         within-sub 18 (p .x ⊗ g .cosine) (p .y ⊗ neg (g .sine)) (lit≤ tt) (within-mul 17 1 (p .x) (g .cosine) (lit≤ tt) x c) (within-mul 17 1 (p .y) (neg (g .sine)) (lit≤ tt) y s),
         within-add 18 (p .x ⊗ neg (g .sine)) (p .y ⊗ g .cosine) (lit≤ tt) (within-mul 17 1 (p .x) (neg (g .sine)) (lit≤ tt) x s) (within-mul 17 1 (p .y) (g .cosine) (lit≤ tt) y c),
+        add-fits binary64 (p .x ⊗ neg (g .sine)) (p .y ⊗ g .cosine),
       )
 
   sides-to : (z : P) (l : List P) → Near z → All Near l → All (λ ab. Near (ab .0) × Near (ab .1)) (sidesTo z l)
