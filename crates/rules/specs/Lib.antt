@@ -3,7 +3,13 @@ pub mod Standin
 pub mod Fill
 pub mod Calls
 pub mod Ks
+pub mod Alls
 pub mod Sections
 pub mod FillSections
 pub mod Sweep
 pub mod SweepLaws
+pub mod Accepted
+pub mod Turn
+pub mod Edges
+pub mod Rows
+pub mod Theorems

@@ -3,18 +3,12 @@ use Prim.Native.Nat.{ℕ, _+_, _-_, _*_, _/_, _%_}
 use mathlib.Core.Bool.{Bool, true, false, not, _&&_, cond}
 use mathlib.Core.List.{List, [], _∷_}
 use lib.Dec.{leb, eqb}
-use lib.IntN.{ℤ, pos, sucℤ, predℤ, natAbs}
 use lib.ListN.{length}
-use lib.Ieee.{Float, lt, le}
-use Rattle.leaves.specs.Num.{zero64, literal}
+use lib.Ieee.{Float, le}
+use Rattle.leaves.specs.Num.{literal}
 use Rattle.leaves.specs.Order.{magnitude}
-use Rattle.seqs.specs.Lists.{every, fold, each}
+use Rattle.seqs.specs.Lists.{every}
 use Rattle.geom.specs.declared.point.P.{P}
-use Rattle.geom.specs.Point.{minus, cross}
-
-pub use Rattle.geom.specs.declared.rule.FillRule.{FillRule}
-pub use Rattle.geom.specs.declared.rule.FillRule.the-variants.{NonZero, EvenOdd}
-unfoldable pub use Rattle.geom.specs.Winding.{inside, pointInside}
 
 -- ring ends never fall, and the last is the corner count
 unfoldable pub rises : ℕ → List ℕ → ℕ → Bool

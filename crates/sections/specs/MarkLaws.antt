@@ -8,7 +8,7 @@ use lib.Dec.{eqb}
 use lib.ListN.{length}
 use lib.Ieee.{Float}
 use Rattle.seqs.specs.Lists.{keepIf, upto}
-use Rattle.seqs.specs.Reads.{left, left-none}
+use Rattle.seqs.specs.Reads.{fuel-more, fuel-none}
 use Rattle.geom.specs.declared.point.P.{P}
 use Rattle.rules.specs.Standin.{FillRule}
 use Rattle.rules.specs.declared.Settings.{Settings}
@@ -22,10 +22,10 @@ use Rattle.sections.specs.declared.Found.the-variants.{At, Nothing}
 
 module _ (p : ℕ → Bool) (i n : ℕ) where
   pub hits-next : i < n → hits p i n ≡ keepIf (p i) i (hits p (i + 1) n)
-  hits-next h = rw (left n i h)
+  hits-next h = rw (fuel-more n i h)
 
   pub hits-none : n ≤ i → hits p i n ≡ []
-  hits-none h = rw (left-none n i h)
+  hits-none h = rw (fuel-none n i h)
 
   pub hit-at : {r : Found} {t : ℕ} → r ≡ At t → Hit p i n r → (hits p i n ≡ t ∷ hits p (t + 1) n) × (t < n) × (i ≤ t)
   hit-at e h = rw e at h
