@@ -10,7 +10,7 @@ use lib.Ieee.{Float}
 use Rattle.seqs.specs.Lists.{keepIf, upto}
 use Rattle.seqs.specs.Reads.{fuel-more, fuel-none}
 use Rattle.geom.specs.declared.point.P.{P}
-use Rattle.rules.specs.Standin.{FillRule}
+use Rattle.geom.specs.declared.rule.FillRule.{FillRule}
 use Rattle.rules.specs.declared.Settings.{Settings}
 use Rattle.rules.specs.declared.Piece.{Piece}
 use Rattle.rules.specs.declared.Entry.{Entry}
