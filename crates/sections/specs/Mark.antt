@@ -58,6 +58,10 @@ pub record Ranges (s : Row) (l : List Float) (w : List ℕ) : Type 0 where
   pub floats : 3 * s .n ≤ length l
   pub marks : 3 * s .n ≤ length w
 
+-- the marks of the places before r have small places in their sections
+abbrev pub Low : ℕ → ℕ → List ℕ → ℕ → Type 0
+Low n r w most = (t : ℕ) → t < r → getD w (n + 2 * t + 1) 0 ≤ most
+
 -- a place before r
 abbrev pub Before : Found → ℕ → Type 0
 Before (At t) r = t < r

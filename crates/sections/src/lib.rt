@@ -8,11 +8,11 @@ ghost use lib.ListN.{length};
 ghost use Rattle.seqs.specs.Slices.{Wrote};
 ghost use Rattle.geom.specs.Outline.{rings, Layout};
 ghost use Rattle.rules.specs.Fill.{overlap, linkEnds, linkInside, connects};
-ghost use Rattle.sections.specs.Mark.{pieceIn, entryIn, over, under, Hit, countOf, Ranges, Before, joinsAt, markAt, afterAt, flatMark, rowMarks, rowNew};
+ghost use Rattle.sections.specs.Mark.{pieceIn, entryIn, over, under, Hit, countOf, Ranges, Before, Low, joinsAt, markAt, afterAt, flatMark, rowMarks, rowNew};
 use geom::FillRule;
 use geom::P;
-use geom::winding::winding;
-use leaves::of_u64;
+use geom::inside::point_inside;
+use geom::steps::along;
 use leaves::smaller;
 use rules::Entry;
 use rules::Piece;
@@ -144,8 +144,8 @@ fn link_inside(corners: &[f64], ends: &[usize], rule: FillRule, g: Settings, lin
     requires { ⌜ Layout (now corners) (now ends) ⌝ }
     ensures { λ r. ⌜ r ≡ linkInside (rings (now (corners .entry)) (now (ends .entry))) rule g (link .from, link .to) k ⌝ }
 {
-    let q = link.from.lerp(link.to, of_u64(k) / 4.0).rotate(g.cosine, g.sine);
-    rule.inside(winding(corners, ends, q))
+    let q = along(link.from, link.to, 4, k).rotate(g.cosine, g.sine);
+    point_inside(corners, ends, rule, q)
 }
 
 // Three points of the link are inside.
@@ -192,4 +192,41 @@ fn joins(corners: &[f64], ends: &[usize], f: Fill, pieces: &[f64], wholes: &[usi
         return Found::At(t);
     }
     Found::Nothing
+}
+
+// The mark of the piece at j, where a new section gets the number `new`.
+fn mark_at(corners: &[f64], ends: &[usize], f: Fill, pieces: &[f64], wholes: &[usize], s: Row, new: usize, j: usize) -> Mark
+    requires { ⌜ Layout (now corners) (now ends) × Ranges s (now pieces) (now wholes) × (j < s .r1) × Low (s .n) (s .r0) (now wholes) 1000000 ⌝ }
+    ensures { λ r. ⌜ (r ≡ markAt (rings (now (corners .entry)) (now (ends .entry))) (f .rule) (f .settings) (now (pieces .entry)) (now (wholes .entry)) s new j) ⌝ }
+{
+    let o = joins(corners, ends, f, pieces, wholes, s, j);
+    let Found::At(t) = o else {
+        return Mark {
+            section: new,
+            nth: 0,
+        };
+    };
+    let k = s.n + 2 * t;
+    Mark {
+        section: wholes[k],
+        nth: wholes[k + 1] + 1,
+    }
+}
+
+fn after(new: usize, m: Mark) -> usize
+    requires { ⌜ new ≤ 1000000000 ⌝ }
+    ensures { λ r. ⌜ (r ≡ afterAt new m) × (r ≤ new + 1) ⌝ }
+{
+    if m.nth == 0 {
+        return new + 1;
+    }
+    new
+}
+
+fn put_mark(wholes: &mut [usize], k: usize, m: Mark)
+    requires { ⌜ k + 1 < length (now wholes) ⌝ }
+    ensures { λ _. ⌜ Wrote (now (wholes .entry)) (now (wholes .exit)) k (flatMark m) ⌝ }
+{
+    wholes[k] = m.section;
+    wholes[k + 1] = m.nth;
 }
