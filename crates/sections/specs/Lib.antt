@@ -2,3 +2,4 @@
 pub mod Mark
 pub mod MarkLaws
 pub mod MarkEntries
+pub mod MarkFrame

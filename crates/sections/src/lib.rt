@@ -230,3 +230,19 @@ fn put_mark(wholes: &mut [usize], k: usize, m: Mark)
     wholes[k] = m.section;
     wholes[k + 1] = m.nth;
 }
+
+// The marks of a row's pieces; the number of the next new section.
+fn mark_row(corners: &[f64], ends: &[usize], f: Fill, pieces: &[f64], wholes: &mut [usize], s: Row, new: usize) -> usize
+    requires { ⌜ Layout (now corners) (now ends) × Ranges s (now pieces) (now wholes) × Low (s .n) (s .r0) (now wholes) 1000000 × (s .n ≤ 10000000) × (new ≤ s .r0) ⌝ }
+    ensures { λ r. ⌜ Wrote (now (wholes .entry)) (now (wholes .exit)) (s .n + 2 * s .r0) (rowMarks (rings (now (corners .entry)) (now (ends .entry))) (f .rule) (f .settings) (now (pieces .entry)) (now (wholes .entry)) s new (s .r0) (s .r1 - s .r0)) × (r ≡ rowNew (rings (now (corners .entry)) (now (ends .entry))) (f .rule) (f .settings) (now (pieces .entry)) (now (wholes .entry)) s new (s .r0) (s .r1 - s .r0)) × (r ≤ s .r1) ⌝ }
+{
+    let mut j = s.r0;
+    let mut section = new;
+    while j < s.r1 {
+        let m = mark_at(corners, ends, f, pieces, wholes, s, section, j);
+        put_mark(wholes, s.n + 2 * j, m);
+        section = after(section, m);
+        j += 1;
+    }
+    section
+}
