@@ -21,9 +21,8 @@ use Rattle.leaves.specs.Units.{units-exact}
 use Rattle.leaves.specs.FloatOrder as order
 use Rattle.leaves.specs.FloatOrder.{lt-le, le-or-lt}
 use Rattle.leaves.specs.Fraction.{over, under, plus, less, le→cross}
-use Rattle.leaves.specs.Rounded.{Rounded, rounded-le, sub-rounded}
+use Rattle.leaves.specs.Rounded.{Rounded, rounded-le, sub-rounded, neg-round}
 use Rattle.leaves.specs.Choice.{magnitude-is}
-use Rattle.leaves.specs.WholeLaws.{neg-round}
 use Rattle.leaves.specs.Monotone.{sub-mono, sub-up, at-least-zero}
 use Rattle.leaves.specs.Bounds.{within-finite, within-more, within-neg, within-le, within-magnitude, within-add, within-sub, within-mul, within-div, within-round, within-literal, within-real, atleast-le, atleast-above}
 use Rattle.seqs.specs.Lists.{each, All}

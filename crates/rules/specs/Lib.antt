@@ -11,4 +11,7 @@ pub mod Accepted
 pub mod Turn
 pub mod Edges
 pub mod Rows
+pub mod Pieces
+pub mod Stitches
 pub mod Theorems
+pub mod CallLaws

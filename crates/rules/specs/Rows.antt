@@ -5,6 +5,7 @@ use mathlib.Core.Bool.{Bool, true, false, not, cond}
 use mathlib.Core.List.{List, [], _∷_, _++_, map}
 use mathlib.Core.Logic.{_⊎_, inl, inr, ⊎-elim}
 use Prim.Native.Nat.{ℕ, zero, suc, _+_, _-_, _*_, _^_, _≤_, _<_, zero-le}
+use native.Mathlib.Nat.{lt-irrefl}
 use native.Mathlib.Omega.{arith}
 use lib.Dec.{T, leb, le→leb, lit<, lit≤}
 use lib.IntN.{ℤ, pos, negsuc, sucℤ, natAbs, _+ℤ_}
@@ -102,6 +103,11 @@ module _ (outline : List (List P)) (g : Settings) (cyc : ℕ) (ok : Checked outl
     hi-whole : IsWhole 21 (floor (ymax (e ∷ es) ⊘ g .spacing ⊖ half)) (kHi g (e ∷ es))
     unfolding kHi
     hi-whole = floor-signed 21 (ymax (e ∷ es) ⊘ g .spacing ⊖ half) (lit≤ tt) (sub-fits binary64 (ymax (e ∷ es) ⊘ g .spacing) half) (in-rows (ymax (e ∷ es)) (ymax-within e es good))
+
+  -- both, of edges that are there
+  pub row-ends-whole : (es : List Edge) → All Good es → 0 < length es → IsWhole 21 (ceil (ymin es ⊘ g .spacing ⊖ half)) (kLo g es) × IsWhole 21 (floor (ymax es ⊘ g .spacing ⊖ half)) (kHi g es)
+  row-ends-whole [] h l = absurd (lt-irrefl 0 l)
+  row-ends-whole (e ∷ es) h l = (lo-whole e es h, hi-whole e es h)
 
   -- ---- row numbers
 
