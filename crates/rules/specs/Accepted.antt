@@ -10,8 +10,8 @@ use lib.ListN.{length, take, drop}
 use lib.Ieee.{Float, le}
 use borrow.Author.Tests.{ltb-false, leb-true}
 use Rattle.refusal.specs.Refusal.{DONE}
-use Rattle.leaves.specs.Num.{_⊕_, _⊗_, literal, half, real}
-use Rattle.leaves.specs.Order.{finite, magnitude}
+use Rattle.numbers.specs.Num.{_⊕_, _⊗_, literal, half, real}
+use Rattle.numbers.specs.Order.{finite, magnitude}
 use Rattle.seqs.specs.Lists.{All}
 use Rattle.seqs.specs.All.{all-take}
 use Rattle.seqs.specs.Tests.{and-both}

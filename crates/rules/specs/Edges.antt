@@ -14,17 +14,17 @@ use lib.Ieee.{Float, nan, inf, fin, binary64, up, down, round, mul, div, neg, fi
 use lib.Ieee.Fits.{down-pos, up-pos, add-fits, sub-fits}
 use lib.Ieee.Digits.{size-lt, size-le, size-reaches}
 use lib.Ieee.Positive.{den, den-pos}
-use Rattle.leaves.specs.Num.{_⊕_, _⊖_, _⊗_, _⊘_, literal, zero64, real}
-use Rattle.leaves.specs.Order.{finite, magnitude}
-use Rattle.leaves.specs.Value.{Within, AtLeast, unitsOf}
-use Rattle.leaves.specs.Units.{units-exact}
-use Rattle.leaves.specs.FloatOrder as order
-use Rattle.leaves.specs.FloatOrder.{lt-le, le-or-lt}
-use Rattle.leaves.specs.Fraction.{over, under, plus, less, le→cross}
-use Rattle.leaves.specs.Rounded.{Rounded, rounded-le, sub-rounded, neg-round}
-use Rattle.leaves.specs.Choice.{magnitude-is}
-use Rattle.leaves.specs.Monotone.{sub-mono, sub-up, at-least-zero}
-use Rattle.leaves.specs.Bounds.{within-finite, within-more, within-neg, within-le, within-magnitude, within-add, within-sub, within-mul, within-div, within-round, within-literal, within-real, atleast-le, atleast-above}
+use Rattle.numbers.specs.Num.{_⊕_, _⊖_, _⊗_, _⊘_, literal, zero64, real}
+use Rattle.numbers.specs.Order.{finite, magnitude}
+use Rattle.numbers.specs.Value.{Within, AtLeast, unitsOf}
+use Rattle.numbers.specs.Units.{units-exact}
+use Rattle.numbers.specs.FloatOrder as order
+use Rattle.numbers.specs.FloatOrder.{lt-le, le-or-lt}
+use Rattle.numbers.specs.Fraction.{over, under, plus, less, le→cross}
+use Rattle.numbers.specs.Rounded.{Rounded, rounded-le, sub-rounded, neg-round}
+use Rattle.numbers.specs.Choice.{magnitude-is}
+use Rattle.numbers.specs.Monotone.{sub-mono, sub-up, at-least-zero}
+use Rattle.numbers.specs.Bounds.{within-finite, within-more, within-neg, within-le, within-magnitude, within-add, within-sub, within-mul, within-div, within-round, within-literal, within-real, atleast-le, atleast-above}
 use Rattle.seqs.specs.Lists.{each, All}
 use Rattle.seqs.specs.All.{all-map}
 use Rattle.geom.specs.declared.point.P.{P}

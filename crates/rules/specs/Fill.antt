@@ -9,9 +9,9 @@ use lib.IntN.{ℤ, pos, negsuc, natAbs, _+ℤ_, _-ℤ_}
 use lib.Signed.{leZ}
 use lib.ListN.{length, getD}
 use lib.Ieee.{Float, fin, inf, neg, lt, le, toSigned, toUnsigned}
-use Rattle.leaves.specs.Num.{_⊕_, _⊖_, _⊗_, _⊘_, real, literal, zero64, half}
-use Rattle.leaves.specs.Order.{before, smaller, larger, magnitude}
-use Rattle.leaves.specs.Whole.{floor, ceil}
+use Rattle.numbers.specs.Num.{_⊕_, _⊖_, _⊗_, _⊘_, real, literal, zero64, half}
+use Rattle.numbers.specs.Order.{before, smaller, larger, magnitude}
+use Rattle.numbers.specs.Whole.{floor, ceil}
 use Rattle.seqs.specs.Lists.{upto, keepIf, sift, each, fold, sortBy, byKey}
 use Rattle.geom.specs.declared.point.P.{P}
 use Rattle.geom.specs.Point.{point, rotate, dist}

@@ -12,7 +12,7 @@ use lib.IntN.{ℤ, pos, sucℤ, predℤ, pred-suc, suc-pred, _+ℤ_, +ℤ-sucℤ
 use lib.Ieee.{Float}
 use lib.ListN.{length, getD, length-append}
 use borrow.Author.Tests.{ne-eqb}
-use Rattle.leaves.specs.Num.{zero64}
+use Rattle.numbers.specs.Num.{zero64}
 use Rattle.seqs.specs.Lists.{sift, each, upto, All}
 use Rattle.seqs.specs.All.{all-map, all-append, all-sift}
 use Rattle.seqs.specs.Sift.{sift-append, sift-none}

@@ -5,10 +5,10 @@ use Prim.Native.Nat.{ℕ}
 use mathlib.Core.List.{List, [], _∷_}
 use lib.IntN.{pos, negsuc}
 use lib.Ieee.{Float, fin, add, sub, mul, div, neg, lt, le, eq, ofInt, round, toSigned, toUnsigned, odd, isNan}
-use Rattle.leaves.specs.Num.{literal, zero64}
-use Rattle.leaves.specs.Order.{negative, before, smaller, larger, magnitude, finite}
-use Rattle.leaves.specs.Whole.{wholeOf, floor, ceil}
-use Rattle.leaves.specs.Root.{isqrt, nearRoot, rootUnits, root}
+use Rattle.numbers.specs.Num.{literal, zero64}
+use Rattle.numbers.specs.Order.{negative, before, smaller, larger, magnitude, finite}
+use Rattle.numbers.specs.Whole.{wholeOf, floor, ceil}
+use Rattle.numbers.specs.Root.{isqrt, nearRoot, rootUnits, root}
 use Rattle.geom.specs.declared.point.P.{P}
 use Rattle.geom.specs.Point.{point, len, dist, lerp}
 use Rattle.geom.specs.declared.rule.FillRule.the-variants.{NonZero}

@@ -8,11 +8,11 @@ use lib.Dec.{T, lit<, lit≤}
 use lib.IntN.{ℤ, pos, negsuc, _+ℤ_}
 use lib.ListN.{length}
 use lib.Ieee.{Float, fin, le, lt}
-use Rattle.leaves.specs.Num.{_⊕_, _⊖_, _⊗_, zero64, real}
-use Rattle.leaves.specs.Value.{Within}
-use Rattle.leaves.specs.FloatOrder.{le-refl, lt-le}
-use Rattle.leaves.specs.Monotone.{sub-mono, sub-up}
-use Rattle.leaves.specs.Bounds.{within-finite, within-more, within-between, within-add, within-sub, within-real}
+use Rattle.numbers.specs.Num.{_⊕_, _⊖_, _⊗_, zero64, real}
+use Rattle.numbers.specs.Value.{Within}
+use Rattle.numbers.specs.FloatOrder.{le-refl, lt-le}
+use Rattle.numbers.specs.Monotone.{sub-mono, sub-up}
+use Rattle.numbers.specs.Bounds.{within-finite, within-more, within-between, within-add, within-sub, within-real}
 use Rattle.seqs.specs.Lists.{keepIf, sift, each, upto, sortBy, All}
 use Rattle.seqs.specs.Tests.{and-both}
 use Rattle.seqs.specs.All.{all-map, all-at, all-sift, all-perm}

@@ -15,16 +15,16 @@ use lib.ListN.{length, getD}
 use lib.Ieee.{Float, nan, inf, fin, binary64, fits, le, lt, isNan, toSigned, ofInt}
 use lib.Ieee.Bits.{is-true}
 use lib.Ieee.Fits.{add-fits, sub-fits}
-use Rattle.leaves.specs.Num.{_⊕_, _⊖_, _⊗_, _⊘_, zero64, half, real}
-use Rattle.leaves.specs.Order.{finite, before, smaller, larger}
-use Rattle.leaves.specs.Whole.{floor, ceil}
-use Rattle.leaves.specs.Value.{Within, AtLeast, IsWhole}
-use Rattle.leaves.specs.FloatOrder.{le-refl, lt-le}
-use Rattle.leaves.specs.OrderLaws.{before-asym, before-trans, before-total, not-before-le}
-use Rattle.leaves.specs.Choice.{smaller-has, larger-has}
-use Rattle.leaves.specs.Monotone.{real-mono, add-mono, mul-mono}
-use Rattle.leaves.specs.Bounds.{within-finite, within-more, within-between, within-add, within-sub, within-mul, within-div, within-real, atleast-le, atleast-above}
-use Rattle.leaves.specs.CastLaws.{ceil-signed, floor-signed}
+use Rattle.numbers.specs.Num.{_⊕_, _⊖_, _⊗_, _⊘_, zero64, half, real}
+use Rattle.numbers.specs.Order.{finite, before, smaller, larger}
+use Rattle.numbers.specs.Whole.{floor, ceil}
+use Rattle.numbers.specs.Value.{Within, AtLeast, IsWhole}
+use Rattle.numbers.specs.FloatOrder.{le-refl, lt-le}
+use Rattle.numbers.specs.OrderLaws.{before-asym, before-trans, before-total, not-before-le}
+use Rattle.numbers.specs.Choice.{smaller-has, larger-has}
+use Rattle.numbers.specs.Monotone.{real-mono, add-mono, mul-mono}
+use Rattle.numbers.specs.Bounds.{within-finite, within-more, within-between, within-add, within-sub, within-mul, within-div, within-real, atleast-le, atleast-above}
+use Rattle.numbers.specs.CastLaws.{ceil-signed, floor-signed}
 use Rattle.seqs.specs.Lists.{fold, upto, byKey, sortBy, All, Strict, Keyed, Sorted}
 use Rattle.seqs.specs.Tests.{refute, clash}
 use Rattle.seqs.specs.All.{all-map, sorted-map}

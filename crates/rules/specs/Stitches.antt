@@ -12,18 +12,18 @@ use lib.Signed.{leZ}
 use lib.ListN.{length}
 use lib.Ieee.{Float, fin, neg, binary64, round, ofInt, le, lt, toSigned, toUnsigned}
 use lib.Ieee.Fits.{add-fits, div-fits}
-use Rattle.leaves.specs.Num.{_⊕_, _⊖_, _⊗_, _⊘_, literal, zero64, real}
-use Rattle.leaves.specs.Order.{finite, smaller}
-use Rattle.leaves.specs.Whole.{floor, ceil}
-use Rattle.leaves.specs.Root.{root}
-use Rattle.leaves.specs.Value.{Within, AtLeast, IsWhole}
-use Rattle.leaves.specs.FloatOrder.{le-trans, lt-le}
-use Rattle.leaves.specs.Choice.{smaller-has}
-use Rattle.leaves.specs.Monotone.{real-mono, square-up, sum-up, div-up}
-use Rattle.leaves.specs.Roots.{root-up}
-use Rattle.leaves.specs.RootBounds.{within-root}
-use Rattle.leaves.specs.Bounds.{within-finite, within-more, within-between, within-neg, within-add, within-sub, within-mul, within-div, within-real, within-literal, atleast-le, atleast-above}
-use Rattle.leaves.specs.CastLaws.{ceil-signed, floor-signed, ceil-unsigned}
+use Rattle.numbers.specs.Num.{_⊕_, _⊖_, _⊗_, _⊘_, literal, zero64, real}
+use Rattle.numbers.specs.Order.{finite, smaller}
+use Rattle.numbers.specs.Whole.{floor, ceil}
+use Rattle.numbers.specs.Root.{root}
+use Rattle.numbers.specs.Value.{Within, AtLeast, IsWhole}
+use Rattle.numbers.specs.FloatOrder.{le-trans, lt-le}
+use Rattle.numbers.specs.Choice.{smaller-has}
+use Rattle.numbers.specs.Monotone.{real-mono, square-up, sum-up, div-up}
+use Rattle.numbers.specs.Roots.{root-up}
+use Rattle.numbers.specs.RootBounds.{within-root}
+use Rattle.numbers.specs.Bounds.{within-finite, within-more, within-between, within-neg, within-add, within-sub, within-mul, within-div, within-real, within-literal, atleast-le, atleast-above}
+use Rattle.numbers.specs.CastLaws.{ceil-signed, floor-signed, ceil-unsigned}
 use Rattle.seqs.specs.Lists.{sift, each, upto, All}
 use Rattle.seqs.specs.All.{all-map, all-append, all-sift}
 use Rattle.seqs.specs.Upto.{upto-all}

@@ -8,7 +8,7 @@ use lib.IntN.{ℤ, sucℤ}
 use lib.ListN.{length}
 use lib.Ieee.{Float, le, lt}
 use lib.Ieee.Bits.{is-true}
-use Rattle.leaves.specs.FloatOrder.{le-trans, le-lt-trans}
+use Rattle.numbers.specs.FloatOrder.{le-trans, le-lt-trans}
 use Rattle.seqs.specs.Lists.{sift, takeWhile, dropWhile, sortBy, upto, sweepBy, All, Sorted, Strict, Sorts}
 use Rattle.seqs.specs.All.{sorted-map}
 use Rattle.seqs.specs.Sift.{sift-append, sift-perm}

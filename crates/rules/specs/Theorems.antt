@@ -8,9 +8,9 @@ use Prim.Native.Nat.{ℕ, _<_}
 use lib.IntN.{ℤ, pos}
 use lib.ListN.{length}
 use lib.Ieee.{Float}
-use Rattle.leaves.specs.Num.{_⊕_, _⊖_, _⊘_, half}
-use Rattle.leaves.specs.Whole.{floor, ceil}
-use Rattle.leaves.specs.Value.{Within, IsWhole}
+use Rattle.numbers.specs.Num.{_⊕_, _⊖_, _⊘_, half}
+use Rattle.numbers.specs.Whole.{floor, ceil}
+use Rattle.numbers.specs.Value.{Within, IsWhole}
 use Rattle.seqs.specs.Lists.{sortBy, fold, insertBack, each, All}
 use Rattle.seqs.specs.Sort.{backs-sort}
 use Rattle.geom.specs.declared.rule.FillRule.{FillRule}

@@ -8,15 +8,15 @@ use lib.Dec.{T, ltb, ltb→lt, nltb→le, lit<, lit≤}
 use lib.IntN.{pos}
 use lib.Ieee.{Float, nan, inf, fin, binary64, up, down, round, add, le}
 use lib.Ieee.Fits.{down-pos, mul-fits}
-use Rattle.leaves.specs.Num.{_⊕_, _⊗_, literal}
-use Rattle.leaves.specs.Order.{finite}
-use Rattle.leaves.specs.Value.{Within}
-use Rattle.leaves.specs.FloatOrder.{le-trans}
-use Rattle.leaves.specs.Fraction.{over, under}
-use Rattle.leaves.specs.Rounded.{Rounded, rounded-le, mul-rounded}
-use Rattle.leaves.specs.Commute.{⊕-comm}
-use Rattle.leaves.specs.Monotone.{add-up, square-up}
-use Rattle.leaves.specs.Bounds.{within-finite, within-between, within-literal}
+use Rattle.numbers.specs.Num.{_⊕_, _⊗_, literal}
+use Rattle.numbers.specs.Order.{finite}
+use Rattle.numbers.specs.Value.{Within}
+use Rattle.numbers.specs.FloatOrder.{le-trans}
+use Rattle.numbers.specs.Fraction.{over, under}
+use Rattle.numbers.specs.Rounded.{Rounded, rounded-le, mul-rounded}
+use Rattle.numbers.specs.Commute.{⊕-comm}
+use Rattle.numbers.specs.Monotone.{add-up, square-up}
+use Rattle.numbers.specs.Bounds.{within-finite, within-between, within-literal}
 use Rattle.rules.specs.Accepted.{Range}
 
 -- what is summed to a finite sum is finite
