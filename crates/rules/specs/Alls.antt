@@ -2,7 +2,7 @@
 use mathlib.Core.Path.{_≡_, refl, ap, _∙_}
 use mathlib.Core.List.{List, [], _∷_, _++_, map, reverse, reverse-cons, Permᴰ·symm, Permᴰ·reverse}
 use Prim.Native.Nat.{ℕ, zero, suc}
-use lib.ListN.{length, drop, getD}
+use lib.ListN.{drop, getD}
 use Rattle.seqs.specs.Lists.{each, All}
 use Rattle.seqs.specs.All.{all-append, all-perm}
 

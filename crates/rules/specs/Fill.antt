@@ -1,6 +1,6 @@
 -- The fill, in the words of document 01 and the source's fill.rs: edges, rows, pieces, sections and stitches.
 -- Floats are f64, each operation rounded once, in the order the source writes them. Definitions only.
-use Prim.Native.Nat.{ℕ, zero, suc, _+_, _-_, _*_, _%_, _^_}
+use Prim.Native.Nat.{ℕ, _+_, _-_, _%_, _^_}
 use mathlib.Core.Bool.{Bool, true, false, not, _&&_, cond}
 use mathlib.Core.List.{List, [], _∷_, _++_, map, reverse}
 use mathlib.Core.Option.{Option, none, some}
@@ -8,7 +8,7 @@ use lib.Dec.{eqb}
 use lib.IntN.{ℤ, pos, negsuc, natAbs, _+ℤ_, _-ℤ_}
 use lib.Signed.{leZ}
 use lib.ListN.{length, getD}
-use lib.Ieee.{Float, fin, inf, neg, lt, le, toSigned, toUnsigned}
+use lib.Ieee.{Float, inf, neg, lt, le, toSigned, toUnsigned}
 use Rattle.numbers.specs.Num.{_⊕_, _⊖_, _⊗_, _⊘_, real, literal, zero64, half}
 use Rattle.numbers.specs.Order.{before, smaller, larger, magnitude}
 use Rattle.numbers.specs.Whole.{floor, ceil}

@@ -1,9 +1,9 @@
 -- Document 01's sheet of checks, K1 to K6, by computing, and the refusals that it names for K1.
 use mathlib.Core.Path.{_≡_, refl}
-use mathlib.Core.Bool.{Bool, true, false, cond}
+use mathlib.Core.Bool.{true, false}
 use Prim.Native.Nat.{ℕ}
 use mathlib.Core.List.{List, [], _∷_}
-use lib.IntN.{pos, negsuc}
+use lib.IntN.{negsuc}
 use lib.Ieee.{Float, fin, add, sub, mul, div, neg, lt, le, eq, ofInt, round, toSigned, toUnsigned, odd, isNan}
 use Rattle.numbers.specs.Num.{literal, zero64}
 use Rattle.numbers.specs.Order.{negative, before, smaller, larger, magnitude, finite}

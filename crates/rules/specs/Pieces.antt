@@ -1,19 +1,17 @@
 -- Sizes of an accepted fill's crossings and pieces. Assumes nothing.
-use mathlib.Core.Path.{_≡_, refl, sym, ap, _∙_, subst}
+use mathlib.Core.Path.{_≡_}
 use mathlib.Core.Bool.{Bool, true, false, not, _&&_, cond}
-use mathlib.Core.List.{List, [], _∷_, _++_, map, reverse, Permᴰ·symm}
-use Prim.Native.Nat.{ℕ, zero, suc, _+_, _≤_, _<_, zero-le}
+use mathlib.Core.List.{List, [], _∷_, map, Permᴰ·symm}
+use Prim.Native.Nat.{ℕ, _<_, zero-le}
 use native.Mathlib.Omega.{arith}
-use lib.Dec.{T, lit<, lit≤}
+use lib.Dec.{T, lit≤}
 use lib.IntN.{ℤ, pos, negsuc, _+ℤ_}
 use lib.ListN.{length}
-use lib.Ieee.{Float, fin, le, lt}
+use lib.Ieee.{Float, le, lt}
 use Rattle.numbers.specs.Num.{_⊕_, _⊖_, _⊗_, zero64, real}
 use Rattle.numbers.specs.Value.{Within}
-use Rattle.numbers.specs.FloatOrder.{le-refl, lt-le}
-use Rattle.numbers.specs.Monotone.{sub-mono, sub-up}
-use Rattle.numbers.specs.Bounds.{within-finite, within-more, within-between, within-add, within-sub, within-real}
-use Rattle.seqs.specs.Lists.{keepIf, sift, each, upto, sortBy, All}
+use Rattle.numbers.specs.Laws.{le-refl, lt-le, sub-mono, sub-up, within-finite, within-more, within-between, within-add, within-sub, within-real, holds}
+use Rattle.seqs.specs.Lists.{keepIf, sift, upto, All}
 use Rattle.seqs.specs.Tests.{and-both}
 use Rattle.seqs.specs.All.{all-map, all-at, all-sift, all-perm}
 use Rattle.seqs.specs.Sift.{sift-pass}
@@ -25,16 +23,12 @@ use Rattle.geom.specs.Inside.{inside}
 use Rattle.rules.specs.declared.Settings.{Settings}
 use Rattle.rules.specs.declared.Edge.{Edge}
 use Rattle.rules.specs.declared.Piece.{Piece}
-use Rattle.rules.specs.declared.Entry.{Entry}
 use Rattle.rules.specs.Fill.{edges, rowNumbers, rowAt, noEdge, edge, starts, lives, crossX, byX, crossed, crossing, spans, shrink, pieceOf, wide, piecesAt, piecesOf, met, rowList}
 use Rattle.rules.specs.Accepted.{Checked, Range}
 use Rattle.rules.specs.Alls.{all-both, all-mapped, all-unmapped, all-parts, all-reverse}
 use Rattle.rules.specs.Edges.{Good, within-number, edges-good}
 use Rattle.rules.specs.Rows.{Fair, row-within, rows-fair}
 use Rattle.rules.specs.FillSections.{pieces-of-rows}
-
-so : {b : Bool} → b ≡ true → T b
-so e = subst T (sym e) tt
 
 -- where an edge crosses a row, and nowhere else: between its ends, but for rounding
 crossing-within : (e : Edge) → Good e → (y : Float) → Within 33 y → T (le (e .y0) y) → T (lt y (e .y1)) → Within 22 (e .x0 ⊕ (y ⊖ e .y0) ⊗ e .dxdy)
@@ -78,7 +72,7 @@ module _ (outline : List (List P)) (g : Settings) (cyc : ℕ) (ok : Checked outl
       let test : ℕ → Bool = λ i. le (edge es i .y0) y && lt y (edge es i .y1) in
       let places = upto 0 (length es) in
       all-perm (λ i. Within 22 (crossX es y i)) (Permᴰ·symm (sort-perm (byX es y) (sift test places)))
-      (all-map (λ i w. let b = and-both (le (edge es i .y0) y) (lt y (edge es i .y1)) (w .1) in crossing-within (edge es i) (all-at Good es i noEdge (w .0) (edges-good outline g cyc ok)) y (row-within outline g cyc ok k h) (so (b .0)) (so (b .1)))
+      (all-map (λ i w. let b = and-both (le (edge es i .y0) y) (lt y (edge es i .y1)) (w .1) in crossing-within (edge es i) (all-at Good es i noEdge (w .0) (edges-good outline g cyc ok)) y (row-within outline g cyc ok k h) (holds (b .0)) (holds (b .1)))
       (sift test places) (all-both (λ i. i < length es) (λ i. test i ≡ true) (sift test places) (all-sift (λ i. i < length es) test places (all-map (λ i w. omega arith) places (upto-all 0 (length es)))) (sift-pass test places)))
 
   hundred : (x : Float) → Range (real (negsuc 99)) (real (pos 100)) x → Within 7 x

@@ -1,42 +1,35 @@
 -- Sizes of an accepted fill's stitches; m0, m1 and n lose nothing as whole numbers. Assumes nothing.
-use mathlib.Core.Path.{_≡_, refl, sym, ap, _∙_, subst}
-use mathlib.Core.Bool.{Bool, true, false, not, _&&_, cond}
+use mathlib.Core.Path.{_≡_, refl}
+use mathlib.Core.Bool.{Bool, true, false, cond}
 use mathlib.Core.List.{List, [], _∷_, _++_, map, reverse}
-use Prim.Native.Nat.{ℕ, zero, suc, _+_, _-_, _*_, _%_, _^_, _≤_, _<_, zero-le}
+use Prim.Native.Nat.{ℕ, zero, suc, _+_, _-_, _*_, _%_, _^_, _≤_, _<_}
 use native.Mathlib.Nat.{mod-lt}
 use native.Mathlib.Omega.{arith}
-use lib.Dec.{T, eqb, leb, le→leb, lit<, lit≤}
+use lib.Dec.{eqb, le→leb, lit<, lit≤}
 use lib.IntN.{ℤ, pos, negsuc, natAbs, negℤ, _+ℤ_, _-ℤ_}
 use borrow.Author.Tests.{ne-eqb}
 use lib.Signed.{leZ}
-use lib.ListN.{length}
-use lib.Ieee.{Float, fin, neg, binary64, round, ofInt, le, lt, toSigned, toUnsigned}
+use lib.Ieee.{Float, neg, binary64, round, ofInt}
 use lib.Ieee.Fits.{add-fits, div-fits}
-use Rattle.numbers.specs.Num.{_⊕_, _⊖_, _⊗_, _⊘_, literal, zero64, real}
-use Rattle.numbers.specs.Order.{finite, smaller}
+use Rattle.numbers.specs.Num.{_⊕_, _⊖_, _⊗_, _⊘_, literal, real}
+use Rattle.numbers.specs.Order.{smaller}
 use Rattle.numbers.specs.Whole.{floor, ceil}
 use Rattle.numbers.specs.Root.{root}
 use Rattle.numbers.specs.Value.{Within, AtLeast, IsWhole}
-use Rattle.numbers.specs.FloatOrder.{le-trans, lt-le}
-use Rattle.numbers.specs.Choice.{smaller-has}
-use Rattle.numbers.specs.Monotone.{real-mono, square-up, sum-up, div-up}
-use Rattle.numbers.specs.Roots.{root-up}
-use Rattle.numbers.specs.RootBounds.{within-root}
-use Rattle.numbers.specs.Bounds.{within-finite, within-more, within-between, within-neg, within-add, within-sub, within-mul, within-div, within-real, within-literal, atleast-le, atleast-above}
-use Rattle.numbers.specs.CastLaws.{ceil-signed, floor-signed, ceil-unsigned}
-use Rattle.seqs.specs.Lists.{sift, each, upto, All}
+use Rattle.numbers.specs.Laws.{smaller-has, real-mono, square-up, sum-up, div-up, root-up, within-root, within-finite, within-more, within-between, within-neg, within-add, within-sub, within-mul, within-div, within-real, within-literal, atleast-le, atleast-above, ceil-signed, floor-signed, ceil-unsigned}
+use Rattle.seqs.specs.Lists.{each, upto, All}
 use Rattle.seqs.specs.All.{all-map, all-append, all-sift}
 use Rattle.seqs.specs.Upto.{upto-all}
 use Rattle.seqs.specs.Signed.{natAbs-add}
 use Rattle.geom.specs.declared.point.P.{P}
 use Rattle.geom.specs.declared.rule.FillRule.{FillRule}
-use Rattle.geom.specs.Point.{point, rotate, lerp, len, dist, minus}
+use Rattle.geom.specs.Point.{point, rotate, lerp, len, dist}
 use Rattle.geom.specs.Steps.{along}
 use Rattle.rules.specs.declared.Settings.{Settings}
 use Rattle.rules.specs.declared.Piece.{Piece}
 use Rattle.rules.specs.declared.Entry.{Entry}
 use Rattle.rules.specs.Fill.{begun, rowList, section, sections, linkEnds, howMany, through, cycle, remEuclid, offset, minEnd, m0, m1, needles, rowPoints, parts, between, sewFrom, sew, sewn, tatami}
-use Rattle.rules.specs.Accepted.{Checked, Range}
+use Rattle.rules.specs.Accepted.{Checked}
 use Rattle.rules.specs.Alls.{all-mapped, all-parts, all-reverse}
 use Rattle.rules.specs.Edges.{turn}
 use Rattle.rules.specs.Pieces.{Small, pieces-small}

@@ -1,9 +1,9 @@
 -- What is proved of every fill that is accepted.
 -- Mission, demand 3, of every fill that is accepted: "the pieces found by sweeping down the outline are exactly those found by taking each row alone and testing every kept edge against it."
 -- (The rest of demand 3, on sections, stands in FillSections.) Assumes nothing.
-use mathlib.Core.Path.{_≡_, refl, sym, ap, _∙_}
+use mathlib.Core.Path.{_≡_, sym, ap, _∙_}
 use mathlib.Core.Bool.{Bool, true, false, cond}
-use mathlib.Core.List.{List, [], _∷_, map, reverse}
+use mathlib.Core.List.{List, [], map, reverse}
 use Prim.Native.Nat.{ℕ, _<_}
 use lib.IntN.{ℤ, pos}
 use lib.ListN.{length}
