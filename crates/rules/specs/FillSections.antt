@@ -1,7 +1,7 @@
 -- The sections of a fill. Mission, demand 3: "Each piece stands in one section, once. Inside a section, each piece's row number is one more than the last, or one less when sewing bottom up, and neighbouring pieces overlap by more than a point."
 -- Document 01, module 4: "The sections `tatami` sews hold exactly the pieces of this list, in its order and under its section numbers, tied crossings or not".
 -- All of it holds of every fill, accepted or not. Assumes nothing.
-use mathlib.Core.Path.{_≡_, refl, sym, ap, _∙_, subst}
+use mathlib.Core.Path.{_≡_, refl, sym, ap, _∙_}
 use mathlib.Core.Bool.{Bool, true, false, cond}
 use mathlib.Core.List.{List, [], _∷_, _++_, map, reverse, reverse-cons, List·Permᴰ, IsChain, IsChain·nil, IsChain·singleton, IsChain·cons-cons, isChain-cons-cons}
 use Prim.Native.Nat.{ℕ, zero, suc, _+_, _<_}
@@ -12,7 +12,7 @@ use lib.IntN.{ℤ, pos, sucℤ, predℤ, pred-suc, suc-pred, _+ℤ_, +ℤ-sucℤ
 use lib.Ieee.{Float}
 use lib.ListN.{length, getD, length-append}
 use borrow.Author.Tests.{ne-eqb}
-use Rattle.leaves.specs.Num.{zero64}
+use Rattle.numbers.specs.Num.{zero64}
 use Rattle.seqs.specs.Lists.{sift, each, upto, All}
 use Rattle.seqs.specs.All.{all-map, all-append, all-sift}
 use Rattle.seqs.specs.Sift.{sift-append, sift-none}

@@ -1,7 +1,7 @@
 use mathlib.Core.Path.{refl}
 use borrow.Author.Tests.{eq-eqb, ne-eqb}
 use lib.Ieee.{ofBits, neg, round}
-use Rattle.leaves.specs.Num.{literal}
+use Rattle.numbers.specs.Num.{literal}
 use Rattle.rules.specs.Fill.{linkEnds}
 use borrow.Author.Needs.{needs}
 use Rattle.sections.proofs.link_ends.Statement.{statement}
