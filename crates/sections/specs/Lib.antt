@@ -3,3 +3,6 @@ pub mod Mark
 pub mod MarkLaws
 pub mod MarkEntries
 pub mod MarkFrame
+pub mod RowEnds
+pub mod AllRows
+pub mod Marked

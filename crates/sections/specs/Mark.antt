@@ -2,18 +2,18 @@
 use Prim.Native.Nat.{ℕ, zero, suc, _+_, _-_, _*_, _≤_, _<_}
 use mathlib.Core.Path.{_≡_}
 use mathlib.Core.Bool.{Bool, cond, _&&_}
-use mathlib.Core.List.{List, [], _∷_, _++_}
+use mathlib.Core.List.{List, [], _∷_, _++_, map}
 use lib.Dec.{eqb}
 use lib.IntN.{pos}
-use lib.ListN.{length, getD}
+use lib.ListN.{length, getD, take, drop, replicate}
 use lib.Ieee.{Float, nan}
-use Rattle.seqs.specs.Lists.{upto, sift, each}
+use Rattle.seqs.specs.Lists.{upto, sift, each, takeWhile}
 use Rattle.geom.specs.declared.point.P.{P}
 use Rattle.geom.specs.declared.rule.FillRule.{FillRule}
 use Rattle.rules.specs.declared.Settings.{Settings}
 use Rattle.rules.specs.declared.Piece.{Piece}
 use Rattle.rules.specs.declared.Entry.{Entry}
-use Rattle.rules.specs.Fill.{overlap, connects}
+use Rattle.rules.specs.Fill.{overlap, connects, entries}
 use Rattle.sections.specs.declared.Found.{Found}
 use Rattle.sections.specs.declared.Found.the-variants.{At, Nothing}
 use Rattle.sections.specs.declared.Mark.{Mark}
@@ -58,14 +58,14 @@ pub record Ranges (s : Row) (l : List Float) (w : List ℕ) : Type 0 where
   pub floats : 3 * s .n ≤ length l
   pub marks : 3 * s .n ≤ length w
 
--- the marks of the places before r have small places in their sections
-abbrev pub Low : ℕ → ℕ → List ℕ → ℕ → Type 0
-Low n r w most = (t : ℕ) → t < r → getD w (n + 2 * t + 1) 0 ≤ most
+-- the marks of the places from b up to r have small places in their sections
+abbrev pub Low : ℕ → ℕ → ℕ → List ℕ → ℕ → Type 0
+Low n b r w most = (t : ℕ) → b ≤ t → t < r → getD w (n + 2 * t + 1) 0 ≤ most
 
--- a place before r
-abbrev pub Before : Found → ℕ → Type 0
-Before (At t) r = t < r
-Before Nothing r = Unit {0}
+-- a place from b on, before r
+abbrev pub Within : Found → ℕ → ℕ → Type 0
+Within (At t) b r = (b ≤ t) × (t < r)
+Within Nothing b r = Unit {0}
 
 module _ (rings : List (List P)) (rule : FillRule) (g : Settings) (l : List Float) (w : List ℕ) (s : Row) where
   -- of the one open place that the piece at j overlaps: that place, where no other piece of this row overlaps it and the link is inside
@@ -103,3 +103,35 @@ module _ (rings : List (List P)) (rule : FillRule) (g : Settings) (l : List Floa
 -- the marks of a list of entries
 abbrev pub flatMarks : List Entry → List ℕ
 flatMarks es = each (λ e. e .section ∷ e .nth ∷ []) es
+
+-- ---- all rows
+
+-- where row r ends that starts at place i: the first place from there on, of n, that has another row
+unfoldable pub rowEnd : List ℕ → ℕ → ℕ → ℕ → ℕ
+rowEnd w n i r = i + length (takeWhile (λ a. eqb a r) (drop i (take n w)))
+
+-- the pieces of row r, which starts at place i, and of the rows after it, `left` rows in all
+unfoldable pub rowsIn : List Float → List ℕ → ℕ → ℕ → ℕ → ℕ → List (List Piece)
+rowsIn l w n i r zero = []
+rowsIn l w n i r (suc left) = let end = rowEnd w n i r in map (pieceIn l) (upto i (end - i)) ∷ rowsIn l w n end (r + 1) left
+
+-- the pieces of the slices' first rows with their marks
+unfoldable pub markedIn : List (List P) → FillRule → Settings → List Float → List ℕ → ℕ → ℕ → List Entry
+markedIn rings rule g l w n rows = entries rings rule g [] 0 (rowsIn l w n 0 0 rows)
+
+-- ---- pieces laid out
+
+-- a piece's floats
+abbrev pub pieceBlock : Piece → List Float
+pieceBlock p = p .y ∷ p .xa ∷ p .xb ∷ []
+
+-- for each piece the count of its row, the first of the rows being row r
+unfoldable pub rowCounts : ℕ → List (List Piece) → List ℕ
+rowCounts r [] = []
+rowCounts r (row ∷ rows) = replicate (length row) r ++ rowCounts (r + 1) rows
+
+-- the slices hold the n pieces of these rows
+pub record Laid (rows : List (List Piece)) (l : List Float) (w : List ℕ) (n : ℕ) : Type 0 where
+  pub count : n ≡ length (each (λ r. r) rows)
+  pub floats : take (3 * n) l ≡ each pieceBlock (each (λ r. r) rows)
+  pub counts : take n w ≡ rowCounts 0 rows

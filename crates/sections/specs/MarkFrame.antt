@@ -53,8 +53,8 @@ module _ (rings : List (List P)) (rule : FillRule) (g : Settings) (l : List Floa
   unfolding markAt joinsAt
   mark-kept new j h = mark-by new j (hits (over l (pieceIn l j)) (s .b0) (s .r0)) (hits-below (over l (pieceIn l j)) (s .b0) (s .r0) h)
 
-  pub low-kept : (most : ℕ) → Low (s .n) (s .r0) v most → Low (s .n) (s .r0) w most
-  low-kept most low t h = let e = mark-on t h in omega (arith, low t h, e .1)
+  pub low-kept : (most : ℕ) → Low (s .n) (s .b0) (s .r0) v most → Low (s .n) (s .b0) (s .r0) w most
+  low-kept most low t b h = let e = mark-on t h in omega (arith, low t b h, e .1)
 
 module _ (rings : List (List P)) (rule : FillRule) (g : Settings) (l : List Float) (w : List ℕ) (s : Row) (new j n : ℕ) where
   pub row-next : j < n → (rowMarks rings rule g l w s new j (n - j) ≡ flatMark (markAt rings rule g l w s new j) ++ rowMarks rings rule g l w s (afterAt new (markAt rings rule g l w s new j)) (j + 1) (n - (j + 1)))

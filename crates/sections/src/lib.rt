@@ -7,8 +7,8 @@ ghost use Prim.Native.Nat.{_+_, _-_, _*_, _≤_, _<_};
 ghost use lib.ListN.{length};
 ghost use Rattle.seqs.specs.Slices.{Wrote};
 ghost use Rattle.geom.specs.Outline.{rings, Layout};
-ghost use Rattle.rules.specs.Fill.{overlap, linkEnds, linkInside, connects};
-ghost use Rattle.sections.specs.Mark.{pieceIn, entryIn, over, under, Hit, countOf, Ranges, Before, Low, joinsAt, markAt, afterAt, flatMark, rowMarks, rowNew};
+ghost use Rattle.rules.specs.Fill.{overlap, linkEnds, linkInside, connects, begun};
+ghost use Rattle.sections.specs.Mark.{pieceIn, entryIn, over, under, Hit, countOf, Ranges, Within, Low, joinsAt, markAt, afterAt, flatMark, rowMarks, rowNew, flatMarks, rowEnd, markedIn};
 use geom::FillRule;
 use geom::P;
 use geom::inside::point_inside;
@@ -114,7 +114,10 @@ fn link_ends(o: Entry, next: Piece) -> Link
     ensures { λ r. ⌜ (r .from ≡ linkEnds o next .0) × (r .to ≡ linkEnds o next .1) ⌝ }
 {
     let last = o.piece;
-    let eps = smaller(smaller(1.0, (last.xb - last.xa) * 0.25), (next.xb - next.xa) * 0.25);
+    let eps = smaller(
+        smaller(1.0, (last.xb - last.xa) * 0.25),
+        (next.xb - next.xa) * 0.25,
+    );
     if o.nth % 2 == 0 {
         return Link {
             from: P {
@@ -140,7 +143,14 @@ fn link_ends(o: Entry, next: Piece) -> Link
 }
 
 // Point k of four on the way, turned back, is inside.
-fn link_inside(corners: &[f64], ends: &[usize], rule: FillRule, g: Settings, link: Link, k: u64) -> bool
+fn link_inside(
+    corners: &[f64],
+    ends: &[usize],
+    rule: FillRule,
+    g: Settings,
+    link: Link,
+    k: u64,
+) -> bool
     requires { ⌜ Layout (now corners) (now ends) ⌝ }
     ensures { λ r. ⌜ r ≡ linkInside (rings (now (corners .entry)) (now (ends .entry))) rule g (link .from, link .to) k ⌝ }
 {
@@ -149,7 +159,14 @@ fn link_inside(corners: &[f64], ends: &[usize], rule: FillRule, g: Settings, lin
 }
 
 // Three points of the link are inside.
-fn connects(corners: &[f64], ends: &[usize], rule: FillRule, g: Settings, o: Entry, next: Piece) -> bool
+fn connects(
+    corners: &[f64],
+    ends: &[usize],
+    rule: FillRule,
+    g: Settings,
+    o: Entry,
+    next: Piece,
+) -> bool
     requires { ⌜ Layout (now corners) (now ends) ⌝ }
     ensures { λ r. ⌜ r ≡ connects (rings (now (corners .entry)) (now (ends .entry))) rule g o next ⌝ }
 {
@@ -169,9 +186,17 @@ pub struct Fill {
 }
 
 // The open place that the piece at j joins, if there is one.
-fn joins(corners: &[f64], ends: &[usize], f: Fill, pieces: &[f64], wholes: &[usize], s: Row, j: usize) -> Found
+fn joins(
+    corners: &[f64],
+    ends: &[usize],
+    f: Fill,
+    pieces: &[f64],
+    wholes: &[usize],
+    s: Row,
+    j: usize,
+) -> Found
     requires { ⌜ Layout (now corners) (now ends) × Ranges s (now pieces) (now wholes) × (j < s .r1) ⌝ }
-    ensures { λ r. ⌜ (r ≡ joinsAt (rings (now (corners .entry)) (now (ends .entry))) (f .rule) (f .settings) (now (pieces .entry)) (now (wholes .entry)) s j) × Before r (s .r0) ⌝ }
+    ensures { λ r. ⌜ (r ≡ joinsAt (rings (now (corners .entry)) (now (ends .entry))) (f .rule) (f .settings) (now (pieces .entry)) (now (wholes .entry)) s j) × Within r (s .b0) (s .r0) ⌝ }
 {
     let p = piece_at(pieces, j);
     let r0 = s.r0;
@@ -195,8 +220,17 @@ fn joins(corners: &[f64], ends: &[usize], f: Fill, pieces: &[f64], wholes: &[usi
 }
 
 // The mark of the piece at j, where a new section gets the number `new`.
-fn mark_at(corners: &[f64], ends: &[usize], f: Fill, pieces: &[f64], wholes: &[usize], s: Row, new: usize, j: usize) -> Mark
-    requires { ⌜ Layout (now corners) (now ends) × Ranges s (now pieces) (now wholes) × (j < s .r1) × Low (s .n) (s .r0) (now wholes) 1000000 ⌝ }
+fn mark_at(
+    corners: &[f64],
+    ends: &[usize],
+    f: Fill,
+    pieces: &[f64],
+    wholes: &[usize],
+    s: Row,
+    new: usize,
+    j: usize,
+) -> Mark
+    requires { ⌜ Layout (now corners) (now ends) × Ranges s (now pieces) (now wholes) × (j < s .r1) × Low (s .n) (s .b0) (s .r0) (now wholes) 1000000 ⌝ }
     ensures { λ r. ⌜ (r ≡ markAt (rings (now (corners .entry)) (now (ends .entry))) (f .rule) (f .settings) (now (pieces .entry)) (now (wholes .entry)) s new j) ⌝ }
 {
     let o = joins(corners, ends, f, pieces, wholes, s, j);
@@ -232,8 +266,16 @@ fn put_mark(wholes: &mut [usize], k: usize, m: Mark)
 }
 
 // The marks of a row's pieces; the number of the next new section.
-fn mark_row(corners: &[f64], ends: &[usize], f: Fill, pieces: &[f64], wholes: &mut [usize], s: Row, new: usize) -> usize
-    requires { ⌜ Layout (now corners) (now ends) × Ranges s (now pieces) (now wholes) × Low (s .n) (s .r0) (now wholes) 1000000 × (s .n ≤ 10000000) × (new ≤ s .r0) ⌝ }
+fn mark_row(
+    corners: &[f64],
+    ends: &[usize],
+    f: Fill,
+    pieces: &[f64],
+    wholes: &mut [usize],
+    s: Row,
+    new: usize,
+) -> usize
+    requires { ⌜ Layout (now corners) (now ends) × Ranges s (now pieces) (now wholes) × Low (s .n) (s .b0) (s .r0) (now wholes) 1000000 × (s .n ≤ 10000000) × (new ≤ s .r0) ⌝ }
     ensures { λ r. ⌜ Wrote (now (wholes .entry)) (now (wholes .exit)) (s .n + 2 * s .r0) (rowMarks (rings (now (corners .entry)) (now (ends .entry))) (f .rule) (f .settings) (now (pieces .entry)) (now (wholes .entry)) s new (s .r0) (s .r1 - s .r0)) × (r ≡ rowNew (rings (now (corners .entry)) (now (ends .entry))) (f .rule) (f .settings) (now (pieces .entry)) (now (wholes .entry)) s new (s .r0) (s .r1 - s .r0)) × (r ≤ s .r1) ⌝ }
 {
     let mut j = s.r0;
@@ -243,6 +285,54 @@ fn mark_row(corners: &[f64], ends: &[usize], f: Fill, pieces: &[f64], wholes: &m
         put_mark(wholes, s.n + 2 * j, m);
         section = after(section, m);
         j += 1;
+    }
+    section
+}
+
+// Where row r ends that starts at place i: the first place from there on whose row isn't r.
+fn row_end(wholes: &[usize], n: usize, i: usize, r: usize) -> usize
+    requires { ⌜ (i ≤ n) × (n ≤ length (now wholes)) ⌝ }
+    ensures { λ e. ⌜ (e ≡ rowEnd (now (wholes .entry)) n i r) × (i ≤ e) × (e ≤ n) ⌝ }
+{
+    let mut j = i;
+    while j < n {
+        if wholes[j] != r {
+            return j;
+        }
+        j += 1;
+    }
+    j
+}
+
+// The marks of all pieces, row by row; the number of sections. Pieces of later rows get none.
+pub fn mark_all(
+    corners: &[f64],
+    ends: &[usize],
+    f: Fill,
+    pieces: &[f64],
+    wholes: &mut [usize],
+    n: usize,
+    rows: usize,
+) -> usize
+    requires { ⌜ Layout (now corners) (now ends) × (3 * n ≤ length (now pieces)) × (3 * n ≤ length (now wholes)) × (n ≤ 10000000) × (rows ≤ 4096) ⌝ }
+    ensures { λ r. ⌜ Wrote (now (wholes .entry)) (now (wholes .exit)) n (flatMarks (markedIn (rings (now (corners .entry)) (now (ends .entry))) (f .rule) (f .settings) (now (pieces .entry)) (now (wholes .entry)) n rows)) × (r ≡ begun (markedIn (rings (now (corners .entry)) (now (ends .entry))) (f .rule) (f .settings) (now (pieces .entry)) (now (wholes .entry)) n rows)) × (r ≤ n) ⌝ }
+{
+    let mut b0 = 0;
+    let mut r0 = 0;
+    let mut section = 0;
+    let mut r = 0;
+    while r < rows {
+        let r1 = row_end(wholes, n, r0, r);
+        let s = Row {
+            n: n,
+            b0: b0,
+            r0: r0,
+            r1: r1,
+        };
+        section = mark_row(corners, ends, f, pieces, wholes, s, section);
+        b0 = r0;
+        r0 = r1;
+        r += 1;
     }
     section
 }

@@ -107,7 +107,7 @@ returns-4 c =
     let e = joins-one rs (a .f .rule) (a .f .settings) (a .pieces .now) (a .wholes .now) s (a .j) (x .0) y in
     let q = rw (c .before .before .before .before .piece-at2 .ensures) at (c .before .before .before .count-over .ensures) in
     let k = rw (c .before .before .before .before .before .before .before .before .before .before .before .before .before .piece-at .ensures, c .before .before .before .before .before .entry-at .ensures) at (c .before .connects .ensures) in
-    (sym (e ∙ rw (eq-eqb _ 1 (sym q ∙ c .before .before .if1 .left), sym k ∙ c .if2 .taken)), x .1)
+    (sym (e ∙ rw (eq-eqb _ 1 (sym q ∙ c .before .before .if1 .left), sym k ∙ c .if2 .taken)), (x .2, x .1))
 
 returns-5 : tie.Need-returns-5
 returns-5 c =

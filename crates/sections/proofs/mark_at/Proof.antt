@@ -15,42 +15,42 @@ returns c = rw (sym (c .before .before .joins .ensures .0) ∙ c .enum-told .giv
 mul-k : tie.Need-mul-k
 mul-k c =
     let b = rw (c .before .o .given .1) at (c .before .before .before .joins .ensures .1) in
-    omega (arith, b, c .before .before .before .before .before .before .before .before .pre .1 .row, c .before .before .before .before .before .before .before .before .pre .1 .all, c .before .before .before .before .before .before .before .before .pre .1 .marks)
+    omega (arith, b .1, c .before .before .before .before .before .before .before .before .pre .1 .row, c .before .before .before .before .before .before .before .before .pre .1 .all, c .before .before .before .before .before .before .before .before .pre .1 .marks)
 
 add-k : tie.Need-add-k
 add-k c =
     let b = rw (c .before .before .o .given .1) at (c .before .before .before .before .joins .ensures .1) in
-    omega (arith, b, c .before .before .before .before .before .before .before .before .before .pre .1 .row, c .before .before .before .before .before .before .before .before .before .pre .1 .all, c .before .before .before .before .before .before .before .before .before .pre .1 .marks)
+    omega (arith, b .1, c .before .before .before .before .before .before .before .before .before .pre .1 .row, c .before .before .before .before .before .before .before .before .before .pre .1 .all, c .before .before .before .before .before .before .before .before .before .pre .1 .marks)
 
 mul-t12 : tie.Need-mul-t12
 mul-t12 c =
     let b = rw (c .before .before .o .given .1) at (c .before .before .before .before .joins .ensures .1) in
-    omega (arith, b, c .before .before .before .before .before .before .before .before .before .pre .1 .row, c .before .before .before .before .before .before .before .before .before .pre .1 .all, c .before .before .before .before .before .before .before .before .before .pre .1 .marks)
+    omega (arith, b .1, c .before .before .before .before .before .before .before .before .before .pre .1 .row, c .before .before .before .before .before .before .before .before .before .pre .1 .all, c .before .before .before .before .before .before .before .before .before .pre .1 .marks)
 
 shared-slice-read-t14 : tie.Need-shared-slice-read-t14
 shared-slice-read-t14 c =
     let b = rw (c .before .before .before .o .given .1) at (c .before .before .before .before .before .joins .ensures .1) in
-    omega (arith, b, c .before .before .before .before .before .before .before .before .before .before .pre .1 .row, c .before .before .before .before .before .before .before .before .before .before .pre .1 .all, c .before .before .before .before .before .before .before .before .before .before .pre .1 .marks)
+    omega (arith, b .1, c .before .before .before .before .before .before .before .before .before .before .pre .1 .row, c .before .before .before .before .before .before .before .before .before .before .pre .1 .all, c .before .before .before .before .before .before .before .before .before .before .pre .1 .marks)
 
 add-t15 : tie.Need-add-t15
 add-t15 c =
     let b = rw (c .before .before .before .o .given .1) at (c .before .before .before .before .before .joins .ensures .1) in
-    omega (arith, b, c .before .before .before .before .before .before .before .before .before .before .pre .1 .row, c .before .before .before .before .before .before .before .before .before .before .pre .1 .all, c .before .before .before .before .before .before .before .before .before .before .pre .1 .marks)
+    omega (arith, b .1, c .before .before .before .before .before .before .before .before .before .before .pre .1 .row, c .before .before .before .before .before .before .before .before .before .before .pre .1 .all, c .before .before .before .before .before .before .before .before .before .before .pre .1 .marks)
 
 mul-t16 : tie.Need-mul-t16
 mul-t16 c =
     let b = rw (c .before .before .before .o .given .1) at (c .before .before .before .before .before .joins .ensures .1) in
-    omega (arith, b, c .before .before .before .before .before .before .before .before .before .before .pre .1 .row, c .before .before .before .before .before .before .before .before .before .before .pre .1 .all, c .before .before .before .before .before .before .before .before .before .before .pre .1 .marks)
+    omega (arith, b .1, c .before .before .before .before .before .before .before .before .before .before .pre .1 .row, c .before .before .before .before .before .before .before .before .before .before .pre .1 .all, c .before .before .before .before .before .before .before .before .before .before .pre .1 .marks)
 
 shared-slice-read-t18 : tie.Need-shared-slice-read-t18
 shared-slice-read-t18 c =
     let b = rw (c .before .before .before .before .o .given .1) at (c .before .before .before .before .before .before .joins .ensures .1) in
-    omega (arith, b, c .before .before .before .before .before .before .before .before .before .before .before .pre .1 .row, c .before .before .before .before .before .before .before .before .before .before .before .pre .1 .all, c .before .before .before .before .before .before .before .before .before .before .before .pre .1 .marks)
+    omega (arith, b .1, c .before .before .before .before .before .before .before .before .before .before .before .pre .1 .row, c .before .before .before .before .before .before .before .before .before .before .before .pre .1 .all, c .before .before .before .before .before .before .before .before .before .before .before .pre .1 .marks)
 
 add-t19 : tie.Need-add-t19
 add-t19 c =
     let b = rw (c .before .before .before .before .o .given .1) at (c .before .before .before .before .before .before .joins .ensures .1) in
-    omega (arith, c .before .before .before .before .before .before .before .before .before .before .before .pre .3 (c .before .before .before .before .o .given .0 .0) b)
+    omega (arith, c .before .before .before .before .before .before .before .before .before .before .before .pre .3 (c .before .before .before .before .o .given .0 .0) (b .0) (b .1))
 
 returns-2 : tie.Need-returns-2
 unfolding markAt

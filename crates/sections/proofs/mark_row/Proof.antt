@@ -36,9 +36,12 @@ mark-at-requires : tie.Need-mark-at-requires Inv-loop μ-loop
 mark-at-requires c κs =
     let a = c .before .before .before .before .before .before .before .before .args in
     let v = c .before .before .before .loop .inv in
-    let r = c .before .before .before .before .before .before .before .before .pre .1 in
-    (c .before .before .before .before .before .before .before .before .pre .0, record { opens = r .opens; row = r .row; all = r .all; floats = r .floats; marks = omega (arith, r .marks, v .run .size) }, c .before .if1 .taken,
-    low-kept (rings (a .corners .now) (a .ends .now)) (a .f .rule) (a .f .settings) (a .pieces .now) (c .before .before .before .loop .wholes) (a .wholes .now) (a .s) (v .run .kept) 1000000 (c .before .before .before .before .before .before .before .before .pre .2))
+    let r = c .before .before .before .before .before .before .before .before .pre .1 in (
+      c .before .before .before .before .before .before .before .before .pre .0,
+      record { opens = r .opens; row = r .row; all = r .all; floats = r .floats; marks = omega (arith, r .marks, v .run .size) },
+      c .before .if1 .taken,
+      low-kept (rings (a .corners .now) (a .ends .now)) (a .f .rule) (a .f .settings) (a .pieces .now) (c .before .before .before .loop .wholes) (a .wholes .now) (a .s) (v .run .kept) 1000000 (c .before .before .before .before .before .before .before .before .pre .2),
+    )
 
 mul-put-mark : tie.Need-mul-put-mark Inv-loop μ-loop
 mul-put-mark c = omega (arith, c .before .before .before .before .before .loop .inv .most, c .before .before .before .before .before .loop .inv .to, c .before .before .before .before .before .loop .inv .run .size, c .before .before .before .before .before .before .before .before .before .before .pre .1 .all, c .before .before .before .before .before .before .before .before .before .before .pre .1 .marks, c .before .before .before .before .before .before .before .before .before .before .pre .3)
