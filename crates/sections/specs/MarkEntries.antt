@@ -1,7 +1,7 @@
 -- The marks by place are those of the row's entries. Assumes nothing.
 use Prim.Native.Nat.{ℕ, zero, suc, _+_, _-_, _*_}
 use native.Mathlib.Omega.{arith}
-use mathlib.Core.Path.{_≡_, refl, sym, ap, _∙_}
+use mathlib.Core.Path.{_≡_, refl, ap, _∙_}
 use mathlib.Core.Bool.{Bool, true, false, cond, _&&_}
 use mathlib.Core.List.{List, [], _∷_, _++_, map}
 use mathlib.Core.Option.{Option, none, some}
@@ -9,7 +9,7 @@ use borrow.Author.Tests.{ne-eqb}
 use lib.Dec.{eqb}
 use lib.ListN.{length, getD, length-map}
 use lib.Ieee.{Float}
-use Rattle.seqs.specs.Lists.{upto, sift, keepIf}
+use Rattle.seqs.specs.Lists.{upto, sift}
 use Rattle.seqs.specs.Sift.{sift-map}
 use Rattle.geom.specs.declared.point.P.{P}
 use Rattle.geom.specs.declared.rule.FillRule.{FillRule}
@@ -19,7 +19,6 @@ use Rattle.rules.specs.declared.Entry.{Entry}
 use Rattle.rules.specs.Fill.{overlap, connects, only, joined, joins, entry, after, rowEntries, begun}
 use Rattle.sections.specs.declared.Found.{Found}
 use Rattle.sections.specs.declared.Found.the-variants.{At, Nothing}
-use Rattle.sections.specs.declared.Mark.{Mark}
 use Rattle.sections.specs.declared.Row.{Row}
 use Rattle.sections.specs.Mark.{pieceIn, entryIn, hits, over, under, countOf, onlyAt, joinedAt, joinsAt, markBy, markAt, afterAt, flatMark, rowMarks, rowNew, flatMarks}
 

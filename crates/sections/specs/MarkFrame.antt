@@ -1,13 +1,13 @@
 -- A row's marks look only at the marks of the row before, which stay while the row's own are written. Assumes nothing.
 use Prim.Native.Nat.{ℕ, zero, suc, _+_, _-_, _*_, _≤_, _<_}
 use native.Mathlib.Omega.{arith}
-use mathlib.Core.Path.{_≡_, refl, sym, ap, _∙_}
+use mathlib.Core.Path.{_≡_, refl, ap, _∙_}
 use mathlib.Core.Bool.{Bool, true, false, cond, _&&_}
 use mathlib.Core.List.{List, [], _∷_, _++_}
 use lib.Dec.{eqb}
-use lib.ListN.{length, take, getD}
+use lib.ListN.{take, getD}
 use lib.Ieee.{Float}
-use Rattle.seqs.specs.Lists.{upto, sift, All}
+use Rattle.seqs.specs.Lists.{upto, All}
 use Rattle.seqs.specs.All.{all-sift}
 use Rattle.seqs.specs.Reads.{read-on, fuel-more, fuel-none}
 use Rattle.geom.specs.declared.point.P.{P}
@@ -15,9 +15,7 @@ use Rattle.geom.specs.declared.rule.FillRule.{FillRule}
 use Rattle.rules.specs.declared.Settings.{Settings}
 use Rattle.rules.specs.declared.Entry.{Entry}
 use Rattle.rules.specs.Fill.{connects}
-use Rattle.sections.specs.declared.Found.{Found}
 use Rattle.sections.specs.declared.Found.the-variants.{At, Nothing}
-use Rattle.sections.specs.declared.Mark.{Mark}
 use Rattle.sections.specs.declared.Row.{Row}
 use Rattle.sections.specs.Mark.{pieceIn, entryIn, hits, over, under, countOf, onlyAt, joinedAt, joinsAt, markBy, markAt, afterAt, flatMark, rowMarks, rowNew, Low}
 

@@ -1,13 +1,11 @@
 -- Laws of the places that marking goes through. Assumes nothing.
-use Prim.Native.Nat.{ℕ, zero, suc, _+_, _-_, _*_, _≤_, _<_}
-use native.Mathlib.Omega.{arith}
-use mathlib.Core.Path.{_≡_, refl, sym, ap, _∙_}
-use mathlib.Core.Bool.{Bool, true, false, cond, _&&_}
-use mathlib.Core.List.{List, [], _∷_, _++_}
-use lib.Dec.{eqb}
+use Prim.Native.Nat.{ℕ, suc, _+_, _≤_, _<_}
+use mathlib.Core.Path.{_≡_, ap, _∙_}
+use mathlib.Core.Bool.{Bool, true, false, _&&_}
+use mathlib.Core.List.{List, [], _∷_}
 use lib.ListN.{length}
 use lib.Ieee.{Float}
-use Rattle.seqs.specs.Lists.{keepIf, upto}
+use Rattle.seqs.specs.Lists.{keepIf}
 use Rattle.seqs.specs.Reads.{fuel-more, fuel-none}
 use Rattle.geom.specs.declared.point.P.{P}
 use Rattle.geom.specs.declared.rule.FillRule.{FillRule}
@@ -15,7 +13,7 @@ use Rattle.rules.specs.declared.Settings.{Settings}
 use Rattle.rules.specs.declared.Piece.{Piece}
 use Rattle.rules.specs.declared.Entry.{Entry}
 use Rattle.rules.specs.Fill.{linkEnds, linkInside, connects}
-use Rattle.sections.specs.Mark.{hits, Hit, countOf, over, under, pieceIn, entryIn, joinedAt, joinsAt}
+use Rattle.sections.specs.Mark.{hits, Hit, countOf, over, pieceIn, joinedAt, joinsAt}
 use Rattle.sections.specs.declared.Row.{Row}
 use Rattle.sections.specs.declared.Found.{Found}
 use Rattle.sections.specs.declared.Found.the-variants.{At, Nothing}

@@ -1,5 +1,4 @@
-use mathlib.Core.Path.{sym, _∙_, refl}
-use mathlib.Core.Bool.{_&&_}
+use mathlib.Core.Path.{refl}
 use Rattle.geom.specs.Outline.{rings}
 use Rattle.sections.specs.MarkLaws.{three}
 use borrow.Author.Needs.{needs}

@@ -1,15 +1,14 @@
-use mathlib.Core.Path.{_≡_, refl, sym, ap, _∙_}
-use mathlib.Core.List.{List, []}
-use Prim.Native.Nat.{ℕ, _+_, _-_, _*_, _≤_, _<_}
+use mathlib.Core.Path.{_≡_, refl, sym, _∙_}
+use mathlib.Core.List.{List}
+use Prim.Native.Nat.{ℕ, _+_, _-_, _*_, _≤_}
 use native.Mathlib.Omega.{arith}
-use lib.ListN.{length}
 use lib.Ieee.{Float}
 use Rattle.seqs.specs.Wrote.{Run, run-start, run-at, run-step, run-end}
 use Rattle.geom.specs.declared.point.P.{P}
 use Rattle.geom.specs.declared.rule.FillRule.{FillRule}
 use Rattle.geom.specs.Outline.{rings}
 use Rattle.rules.specs.declared.Settings.{Settings}
-use Rattle.sections.specs.Mark.{rowMarks, rowNew, Ranges, Low}
+use Rattle.sections.specs.Mark.{rowMarks, rowNew}
 use Rattle.sections.specs.MarkFrame.{mark-kept, low-kept, row-next, row-none}
 use Rattle.sections.specs.declared.Row.{Row}
 use borrow.Author.Needs.{needs}
