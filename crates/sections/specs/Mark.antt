@@ -1,4 +1,4 @@
--- The marks of a row by place: what the code works out, said of the slices. Definitions only.
+-- The marks by place, of a row and of all rows: what the code works out, said of the slices. Definitions only.
 use Prim.Native.Nat.{ℕ, zero, suc, _+_, _-_, _*_, _≤_, _<_}
 use mathlib.Core.Path.{_≡_}
 use mathlib.Core.Bool.{Bool, cond, _&&_}
