@@ -1,11 +1,14 @@
 // The number leaves: document 01's module 1. Every f64 goes in, NaN and infinities too, and each contract is an
 // equation over the kit's account of IEEE 754. `checked` has the same with document 01's refusal in front.
+pub mod bits;
 pub mod cast;
 pub mod checked;
 pub mod digits;
 pub mod order;
 pub mod whole;
 
+pub use bits::of_bits;
+pub use bits::to_bits;
 pub use cast::of_i64;
 pub use cast::of_u64;
 pub use cast::to_i64;

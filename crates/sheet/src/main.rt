@@ -1,0 +1,8 @@
+// Runs document 01's checks and writes one line for each; the file `stdout` has what they must say. Floats are written as
+// the 16 hex digits of their bits, a refusal by its number.
+mod number;
+mod say;
+
+fn main() {
+    number::write();
+}
