@@ -14,7 +14,7 @@ use lib.Ieee.{Float, nan, inf, fin, binary64, up, down, round, mul, div, neg, fi
 use lib.Ieee.Fits.{down-pos, up-pos, add-fits, sub-fits}
 use lib.Ieee.Digits.{size-lt, size-le, size-reaches}
 use lib.Ieee.Positive.{den, den-pos}
-use Rattle.leaves.specs.Num.{_⊕_, _⊖_, _⊗_, _⊘_, literal, zero64}
+use Rattle.leaves.specs.Num.{_⊕_, _⊖_, _⊗_, _⊘_, literal, zero64, real}
 use Rattle.leaves.specs.Order.{finite, magnitude}
 use Rattle.leaves.specs.Value.{Within, AtLeast, unitsOf}
 use Rattle.leaves.specs.Units.{units-exact}
@@ -25,11 +25,12 @@ use Rattle.leaves.specs.Rounded.{Rounded, rounded-le, sub-rounded}
 use Rattle.leaves.specs.Choice.{magnitude-is}
 use Rattle.leaves.specs.WholeLaws.{neg-round}
 use Rattle.leaves.specs.Monotone.{sub-mono, sub-up, at-least-zero}
-use Rattle.leaves.specs.Bounds.{within-finite, within-more, within-neg, within-le, within-magnitude, within-add, within-sub, within-mul, within-div, within-round, within-literal, atleast-le, atleast-above}
+use Rattle.leaves.specs.Bounds.{within-finite, within-more, within-neg, within-le, within-magnitude, within-add, within-sub, within-mul, within-div, within-round, within-literal, within-real, atleast-le, atleast-above}
 use Rattle.seqs.specs.Lists.{each, All}
 use Rattle.seqs.specs.All.{all-map}
 use Rattle.geom.specs.declared.point.P.{P}
 use Rattle.geom.specs.Point.{rotate}
+use Rattle.geom.specs.Limits.{largest}
 use Rattle.rules.specs.declared.Settings.{Settings}
 use Rattle.rules.specs.declared.Edge.{Edge}
 use Rattle.rules.specs.Fill.{sidesTo, sides, edgeOf, keptSide, turned, edges}
@@ -315,8 +316,9 @@ module _ (outline : List (List P)) (g : Settings) (cyc : ℕ) (ok : Checked outl
   pub turn : Within 1 (g .cosine) × Within 1 (g .sine)
   turn = turn-within (g .cosine) (g .sine) (ok .cosine) (ok .sine) (ok .unit)
 
-  small : (x : Float) → T (le (magnitude x) (literal 100000 1)) → Within 17 x
-  small x h = within-le 17 x (literal 100000 1) h (within-literal 17 100000 1 (lit≤ tt) (lit< tt) (lit≤ tt))
+  small : (x : Float) → T (le (magnitude x) largest) → Within 17 x
+  unfolding largest
+  small x h = within-le 17 x (real (pos 100000)) h (within-real 17 (pos 100000) (lit≤ tt) (lit≤ tt))
 
   turned-near : (p : P) → Corner p → Near (rotate p (g .cosine) (neg (g .sine)))
   turned-near p h =

@@ -14,9 +14,10 @@ use Rattle.leaves.specs.Order.{before, smaller, larger, magnitude}
 use Rattle.leaves.specs.Whole.{floor, ceil}
 use Rattle.seqs.specs.Lists.{upto, keepIf, sift, each, fold, sortBy, byKey}
 use Rattle.geom.specs.declared.point.P.{P}
-use Rattle.geom.specs.Point.{point, rotate, lerp, dist}
+use Rattle.geom.specs.Point.{point, rotate, dist}
 use Rattle.geom.specs.declared.rule.FillRule.{FillRule}
-use Rattle.geom.specs.Winding.{inside, pointInside}
+use Rattle.geom.specs.Steps.{along}
+use Rattle.geom.specs.Inside.{inside, pointInside}
 use Rattle.rules.specs.declared.Settings.{Settings}
 use Rattle.rules.specs.declared.Edge.{Edge}
 use Rattle.rules.specs.declared.Piece.{Piece}
@@ -170,7 +171,7 @@ linkEnds o next =
 
 -- point k of four on the way from a to b, turned back, is inside
 unfoldable pub linkInside : List (List P) → FillRule → Settings → P × P → ℕ → Bool
-linkInside rings rule g ab k = pointInside rings rule (rotate (lerp (ab .0) (ab .1) (real (pos k) ⊘ literal 4 1)) (g .cosine) (g .sine))
+linkInside rings rule g ab k = pointInside rings rule (rotate (along (ab .0) (ab .1) 4 k) (g .cosine) (g .sine))
 
 -- three points of the link are inside
 unfoldable pub connects : List (List P) → FillRule → Settings → Entry → Piece → Bool
@@ -275,7 +276,7 @@ rowPoints g stagger e =
 unfoldable pub between : Settings → P → P → List P
 between g p q =
     let n = toUnsigned 64 (ceil (dist p q ⊘ g .len)) in
-    map (λ i. lerp p q (real (pos i) ⊘ real (pos n))) (upto 1 (n - 1))
+    map (along p q n) (upto 1 (n - 1))
 
 -- from p to each of the points in turn, links between rows as well
 unfoldable pub sewFrom : Settings → P → List P → List P

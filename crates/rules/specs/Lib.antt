@@ -1,5 +1,4 @@
 -- What a fill is (Fill), what its calls answer and leave (Calls), and what is proved of both.
-pub mod Standin
 pub mod Fill
 pub mod Calls
 pub mod Ks

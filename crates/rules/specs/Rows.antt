@@ -14,7 +14,7 @@ use lib.ListN.{length, getD}
 use lib.Ieee.{Float, nan, inf, fin, binary64, fits, le, lt, isNan, toSigned, ofInt}
 use lib.Ieee.Bits.{is-true}
 use lib.Ieee.Fits.{add-fits, sub-fits}
-use Rattle.leaves.specs.Num.{_⊕_, _⊖_, _⊗_, _⊘_, literal, zero64, half, real}
+use Rattle.leaves.specs.Num.{_⊕_, _⊖_, _⊗_, _⊘_, zero64, half, real}
 use Rattle.leaves.specs.Order.{finite, before, smaller, larger}
 use Rattle.leaves.specs.Whole.{floor, ceil}
 use Rattle.leaves.specs.Value.{Within, AtLeast, IsWhole}
@@ -22,7 +22,7 @@ use Rattle.leaves.specs.FloatOrder.{le-refl, lt-le}
 use Rattle.leaves.specs.OrderLaws.{before-asym, before-trans, before-total, not-before-le}
 use Rattle.leaves.specs.Choice.{smaller-has, larger-has}
 use Rattle.leaves.specs.Monotone.{real-mono, add-mono, mul-mono}
-use Rattle.leaves.specs.Bounds.{within-finite, within-more, within-between, within-add, within-sub, within-mul, within-div, within-real, within-literal, atleast-le, atleast-above}
+use Rattle.leaves.specs.Bounds.{within-finite, within-more, within-between, within-add, within-sub, within-mul, within-div, within-real, atleast-le, atleast-above}
 use Rattle.leaves.specs.CastLaws.{ceil-signed, floor-signed}
 use Rattle.seqs.specs.Lists.{fold, upto, byKey, sortBy, All, Strict, Keyed, Sorted}
 use Rattle.seqs.specs.Tests.{refute, clash}
@@ -81,7 +81,7 @@ module _ (outline : List (List P)) (g : Settings) (cyc : ℕ) (ok : Checked outl
   half-within n l = omega (arith, pow-pos n)
 
   pub spacing-within : Within 10 (g .spacing)
-  spacing-within = within-between 10 half (g .spacing) (literal 1000 1) (ok .spacing .least) (ok .spacing .most) (half-within 10 (lit≤ tt)) (within-literal 10 1000 1 (lit≤ tt) (lit< tt) (lit≤ tt))
+  spacing-within = within-between 10 half (g .spacing) (real (pos 1000)) (ok .spacing .least) (ok .spacing .most) (half-within 10 (lit≤ tt)) (within-real 10 (pos 1000) (lit≤ tt) (lit≤ tt))
 
   half-least : AtLeast 1 half
   unfolding AtLeast
