@@ -2,9 +2,9 @@
 ghost use mathlib.Core.Path.{_≡_};
 ghost use lib.IntN.{pos};
 ghost use lib.Ieee.{binary64, ofInt, toSigned, toUnsigned};
-ghost use Rattle.leaves.specs.Root.{root};
-ghost use Rattle.leaves.specs.Whole.{floor, ceil};
-ghost use Rattle.leaves.specs.Order.{before, smaller, larger, magnitude};
+ghost use Rattle.numbers.specs.Root.{root};
+ghost use Rattle.numbers.specs.Whole.{floor, ceil};
+ghost use Rattle.numbers.specs.Order.{before, smaller, larger, magnitude};
 ghost use Rattle.leaves.specs.Answer.{said, saidPlace, rootAnswer, floorAnswer, ceilAnswer, magnitudeAnswer, smallerAnswer, largerAnswer, orderAnswer};
 ghost use Rattle.exports.specs.Stored.{stored};
 use leaves::checked;

@@ -1,2 +1,3 @@
+mod Checks
 mod Loops
 mod Parity

@@ -1,13 +1,13 @@
 -- The turns of the loops: one step, the start and the end of what each works out, and signed sums that fit. Assumes nothing.
-use Prim.Native.Nat.{ℕ, zero, suc, _+_, _-_, _*_, _/_, _%_, _^_, _≤_, _<_}
+use Prim.Native.Nat.{ℕ, suc, _+_, _-_, _*_, _/_, _%_, _^_, _≤_, _<_}
 use native.Mathlib.Omega.{arith}
-use mathlib.Core.Path.{_≡_, refl, sym, ap, _∙_}
-use mathlib.Core.Bool.{true, _&&_, cond}
-use mathlib.Core.List.{List, [], _∷_}
+use mathlib.Core.Path.{_≡_, sym, ap, _∙_}
+use mathlib.Core.Bool.{Bool, true, false, _&&_, cond}
+use mathlib.Core.List.{List}
 use lib.Dec.{eqb}
 use lib.ListN.{length, take, drop, getD, length-take, length-drop}
 use lib.Seq.{drop-drop, take-all, length-take-le}
-use lib.IntN.{ℤ, pos, _+ℤ_, natAbs, +ℤ-assoc, +ℤ-idl, +ℤ-idr}
+use lib.IntN.{ℤ, pos, _+ℤ_, natAbs, +ℤ-assoc, +ℤ-idr}
 use lib.Ieee.{Float, nan, le}
 use mir.Syntax.{w64}
 use mir.Val.{SFits, toZ, ofZ}
@@ -136,9 +136,16 @@ module _ (p : P) (ends : List ℕ) (l : List Float) where
 -- ---- the steps of a segment
 
 module _ (rs : List (List P)) (rule : FillRule) (a b : P) (n i : ℕ) where
-  pub steps-next : i < n → stepsInside rs rule a b n i (n - i) ≡ (pointInside rs rule (along a b n i) && stepsInside rs rule a b n (i + 1) (n - (i + 1)))
+  steps-next : i < n → stepsInside rs rule a b n i (n - i) ≡ (pointInside rs rule (along a b n i) && stepsInside rs rule a b n (i + 1) (n - (i + 1)))
   unfolding stepsInside
   steps-next h = let e : n - i ≡ suc (n - (i + 1)) = omega arith in rw e
+
+  -- from what the calls of a turn answer: the step's end p, and whether it is inside
+  pub steps-on : {p : P} {r : Bool} → i < n → p ≡ along a b n i → r ≡ pointInside rs rule p → r ≡ true → stepsInside rs rule a b n i (n - i) ≡ stepsInside rs rule a b n (i + 1) (n - (i + 1))
+  steps-on h e q t = rw (sym (rw e at q) ∙ t) at (steps-next h)
+
+  pub steps-out : {p : P} {r : Bool} → i < n → p ≡ along a b n i → r ≡ pointInside rs rule p → r ≡ false → stepsInside rs rule a b n i (n - i) ≡ false
+  steps-out h e q t = rw (sym (rw e at q) ∙ t) at (steps-next h)
 
   pub steps-end : n ≤ i → stepsInside rs rule a b n i (n - i) ≡ true
   unfolding stepsInside

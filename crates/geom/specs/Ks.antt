@@ -5,7 +5,7 @@ use mathlib.Core.Bool.{true, false}
 use mathlib.Core.List.{List, [], _∷_}
 use lib.IntN.{pos}
 use lib.Ieee.{Float, lt, le, eq, neg, add, sub, mul, ofInt, round}
-use Rattle.leaves.specs.Num.{real}
+use Rattle.numbers.specs.Num.{real}
 use Rattle.geom.specs.declared.rule.FillRule.the-variants.{NonZero}
 use Rattle.geom.specs.Point.{point}
 use Rattle.geom.specs.Outline.{points, cut, rings}

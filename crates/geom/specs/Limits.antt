@@ -6,8 +6,9 @@ use lib.Dec.{leb, eqb}
 use lib.ListN.{length}
 use lib.IntN.{pos, negsuc}
 use lib.Ieee.{Float, le, eq}
-use Rattle.leaves.specs.Num.{_⊕_, _⊗_, real, literal, half, zero64}
-use Rattle.leaves.specs.Order.{finite, magnitude}
+use Rattle.numbers.specs.Num.{_⊕_, _⊗_, real, literal, half, zero64}
+use Rattle.numbers.specs.Order.{finite, magnitude}
+use Rattle.geom.specs.declared.point.P.{P}
 use Rattle.geom.specs.Outline.{rising}
 
 -- of an outline; of an outline in all; of one rail or line; of a column
@@ -35,6 +36,9 @@ within lo hi x = le lo x && le x hi
 
 unfoldable pub goodNumber : Float → Bool
 goodNumber x = finite x && le (magnitude x) largest
+
+unfoldable pub goodPoint : P → Bool
+goodPoint p = goodNumber (p .x) && goodNumber (p .y)
 
 unfoldable pub goodNumbers : List Float → Bool
 goodNumbers [] = true

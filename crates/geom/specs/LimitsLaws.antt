@@ -1,18 +1,19 @@
 -- What is proved of the limits' tests: a good number by its two ends, and the turns of a loop over numbers. Assumes nothing.
-use Prim.Native.Nat.{ℕ, zero, suc, _+_, _-_, _*_, _/_, _%_, _≤_, _<_}
+use Prim.Native.Nat.{ℕ, _+_, _-_, _*_, _/_, _%_, _≤_, _<_}
 use native.Mathlib.Omega.{arith}
-use mathlib.Core.Path.{_≡_, refl, sym, ap, _∙_}
-use mathlib.Core.Bool.{Bool, true, false, true≢false, _&&_, _||_}
-use mathlib.Core.List.{List, [], _∷_}
+use mathlib.Core.Path.{_≡_, refl, sym, _∙_}
+use mathlib.Core.Bool.{Bool, true, false, _&&_}
+use mathlib.Core.List.{List}
 use native.Mathlib.Nat.{mul-pos}
-use lib.Dec.{ltb, leb, eqb}
+use lib.Dec.{leb, eqb}
 use lib.IntN.{ℤ, pos}
-use lib.ListN.{length, take, drop, getD}
+use lib.ListN.{length, drop, getD}
 use lib.Ieee.{Float, nan, inf, fin, neg, lt, le, eq, up, down, ofInt, round}
 use lib.Ieee.Fits.{up-pos, down-pos}
 use borrow.Author.Tests.{lt-ltb, eqb-true, eqb-false, eq-eqb, ne-eqb}
-use Rattle.leaves.specs.Order.{finite, magnitude}
+use Rattle.numbers.specs.Order.{finite, magnitude}
 use Rattle.seqs.specs.Front.{next, none}
+use Rattle.seqs.specs.Tests.{and-both}
 use Rattle.geom.specs.Outline.{rising, Layout}
 use Rattle.geom.specs.Limits.{mostRings, mostCorners, largest, within, goodNumber, goodNumbers, goodOutline}
 
@@ -71,15 +72,11 @@ module _ (ok : Bool) (l : List Float) (i : ℕ) where
 
 -- ---- layout
 
-both : (a b : Bool) → (a && b) ≡ true → (a ≡ true) × (b ≡ true)
-both true b h = (refl, h)
-both false b h = absurd (true≢false (sym h))
-
 -- an accepted outline can be lent ring by ring
 pub outline-layout : (corners : List Float) (ends : List ℕ) → goodOutline corners ends ≡ true → Layout corners ends
 unfolding goodOutline
 outline-layout corners ends h =
-    let p = both (eqb (length corners % 2) 0 && leb (length ends) mostRings && leb (length corners / 2) mostCorners) (rising 0 ends (length corners / 2)) h in
-    let q = both (eqb (length corners % 2) 0 && leb (length ends) mostRings) (leb (length corners / 2) mostCorners) (p .0) in
-    let r = both (eqb (length corners % 2) 0) (leb (length ends) mostRings) (q .0) in
+    let p = and-both (eqb (length corners % 2) 0 && leb (length ends) mostRings && leb (length corners / 2) mostCorners) (rising 0 ends (length corners / 2)) h in
+    let q = and-both (eqb (length corners % 2) 0 && leb (length ends) mostRings) (leb (length corners / 2) mostCorners) (p .0) in
+    let r = and-both (eqb (length corners % 2) 0) (leb (length ends) mostRings) (q .0) in
     record { even = eqb-true _ _ (r .0); rise = p .1 }

@@ -2,7 +2,7 @@
 use Prim.Native.Nat.{ℕ, zero, suc, _+_, _-_, _*_, _/_, _%_, _≤_, _<_}
 use native.Mathlib.Omega.{arith}
 use mathlib.Core.Path.{_≡_, refl, sym, ap, _∙_}
-use mathlib.Core.Bool.{Bool, true, false, true≢false, _&&_}
+use mathlib.Core.Bool.{true, _&&_}
 use mathlib.Core.List.{List, [], _∷_}
 use lib.Dec.{leb, eqb}
 use lib.ListN.{length, take, drop, getD, length-drop}
@@ -10,9 +10,10 @@ use lib.Seq.{drop-nil, take-nil, getD-drop}
 use lib.Ieee.{Float, nan}
 use borrow.Author.Tests.{leb-true, eqb-true}
 use Rattle.seqs.specs.Front.{next, none}
+use Rattle.seqs.specs.Tests.{and-both}
 use Rattle.geom.specs.declared.point.P.{P}
 use Rattle.geom.specs.Point.{point}
-use Rattle.geom.specs.Outline.{points, cut, rings, rising}
+use Rattle.geom.specs.Outline.{points, cut, rising}
 
 -- ---- points
 
@@ -78,10 +79,6 @@ points-last l z even some =
 
 -- ---- ends
 
-and-true : (a b : Bool) → (a && b) ≡ true → (a ≡ true) × (b ≡ true)
-and-true true b h = (refl, h)
-and-true false b h = absurd (true≢false (sym h))
-
 pub rising-next : (a : ℕ) (l : List ℕ) (k n : ℕ) → k < length l → rising a (drop k l) n ≡ (leb a (getD l k 0) && rising (getD l k 0) (drop (k + 1) l) n)
 unfolding rising
 rising-next a l k n h = rw (next l k 0 h)
@@ -94,7 +91,7 @@ pub rising-le : (a : ℕ) (l : List ℕ) (n : ℕ) → rising a l n ≡ true →
 unfolding rising
 rising-le a [] n h = omega (arith, eqb-true a n h)
 rising-le a (e ∷ l) n h =
-    let q = and-true (leb a e) (rising e l n) h in
+    let q = and-both (leb a e) (rising e l n) h in
     omega (arith, leb-true a e (q .0), rising-le e l n (q .1))
 
 -- what a turn over a ring's end knows
@@ -105,7 +102,7 @@ pub record Turn (a e n : ℕ) (rest : List ℕ) : Type 0 where
 
 pub rising-turn : (a : ℕ) (l : List ℕ) (k n : ℕ) → rising a (drop k l) n ≡ true → k < length l → Turn a (getD l k 0) n (drop (k + 1) l)
 rising-turn a l k n h lt =
-    let q = and-true (leb a (getD l k 0)) (rising (getD l k 0) (drop (k + 1) l) n) (sym (rising-next a l k n lt) ∙ h) in
+    let q = and-both (leb a (getD l k 0)) (rising (getD l k 0) (drop (k + 1) l) n) (sym (rising-next a l k n lt) ∙ h) in
     record { from = leb-true _ _ (q .0); to = rising-le _ _ _ (q .1); rise = q .1 }
 
 module _ (a : ℕ) (ends : List ℕ) (k : ℕ) (l : List Float) where

@@ -3,8 +3,8 @@ use Prim.Native.Nat.{_^_}
 use mathlib.Core.Bool.{false, cond}
 use lib.IntN.{pos}
 use lib.Ieee.{Float, fin, lt, neg}
-use Rattle.leaves.specs.Num.{_⊕_, _⊖_, _⊗_, _⊘_, literal, zero64}
-use Rattle.leaves.specs.Root.{root}
+use Rattle.numbers.specs.Num.{_⊕_, _⊖_, _⊗_, _⊘_, literal, zero64}
+use Rattle.numbers.specs.Root.{root}
 use Rattle.geom.specs.declared.point.P.{P}
 
 abbrev pub point : Float → Float → P

@@ -2,9 +2,9 @@
 use Prim.Native.Nat.{ℕ}
 use lib.IntN.{pos}
 use lib.Ieee.{Float, toUnsigned}
-use Rattle.leaves.specs.Num.{_⊘_, real}
-use Rattle.leaves.specs.Whole.{ceil}
-use Rattle.leaves.specs.Order.{larger}
+use Rattle.numbers.specs.Num.{_⊘_, real}
+use Rattle.numbers.specs.Whole.{ceil}
+use Rattle.numbers.specs.Order.{larger}
 use Rattle.geom.specs.declared.point.P.{P}
 use Rattle.geom.specs.Point.{one, lerp}
 

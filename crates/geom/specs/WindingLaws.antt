@@ -1,21 +1,22 @@
 -- What is proved of the winding number: its size, edges of corners on one side, a run of edges in two parts. Assumes nothing.
-use Prim.Native.Nat.{ℕ, zero, suc, _+_, _-_, _*_, _/_, _%_, _≤_, _<_}
+use Prim.Native.Nat.{ℕ, zero, suc, _+_, _-_, _/_, _≤_, _<_}
 use native.Mathlib.Omega.{arith}
 use mathlib.Core.Path.{_≡_, refl, sym, ap, _∙_}
-use mathlib.Core.Bool.{Bool, true, false, true≢false, not, _&&_, _||_, Bool·beq, cond}
+use mathlib.Core.Bool.{Bool, true, false, _&&_, _||_, cond}
 use mathlib.Core.List.{List, [], _∷_}
-use mathlib.Core.Logic.{_⊎_, inl, inr}
-use lib.Dec.{T, leb, ltb, eqb}
-use lib.ListN.{length, take, drop, getD, length-take, length-drop}
-use lib.IntN.{ℤ, pos, negsuc, _+ℤ_, natAbs, +ℤ-assoc, +ℤ-idl, +ℤ-idr}
-use lib.Ieee.{Float, nan, inf, fin, lt, le, eq, below, level, up, down}
-use borrow.Author.Tests.{ltb-true, ltb-false, le-ltb, lt-ltb, eqb-true}
-use Rattle.leaves.specs.Num.{zero64}
+use lib.Dec.{ltb, eqb}
+use lib.ListN.{length, take, drop, length-take}
+use lib.IntN.{ℤ, pos, negsuc, _+ℤ_, natAbs, +ℤ-assoc, +ℤ-idl}
+use lib.Ieee.{Float, lt, le}
+use borrow.Author.Tests.{eqb-true}
+use Rattle.numbers.specs.Num.{zero64}
+use Rattle.numbers.specs.Laws.{holds, le-lt-clash}
 use Rattle.seqs.specs.Signed.{natAbs-add}
+use Rattle.seqs.specs.Tests.{refute}
 use Rattle.geom.specs.declared.point.P.{P}
 use Rattle.geom.specs.Point.{minus, cross}
 use Rattle.geom.specs.Outline.{points, cut, rings, rising, Layout}
-use Rattle.geom.specs.OutlineLaws.{points-length, points-take, points-drop, Turn, rising-turn}
+use Rattle.geom.specs.OutlineLaws.{rising-turn}
 use Rattle.geom.specs.Winding.{edge, edges, ring, winding, chain, lows, oneSide}
 
 -- ---- sizes
@@ -72,34 +73,8 @@ chain-split p (suc k) (a ∷ b ∷ l) h =
 -- ---- corners on one side
 
 -- what is at most y is not above it
-less-or-same : (x y A B : ℕ) (b : Bool) → (ltb x y || (eqb A B && b)) ≡ true → (x < y) ⊎ ((A ≡ B) × (b ≡ true))
-less-or-same x y A B b h = go (ltb x y) refl (eqb A B) refl h
-  where
-    go : (c : Bool) → ltb x y ≡ c → (d : Bool) → eqb A B ≡ d → (c || (d && b)) ≡ true → (x < y) ⊎ ((A ≡ B) × (b ≡ true))
-    go true e d f k = inl (ltb-true x y e)
-    go false e true f k = inr (eqb-true A B f, k)
-    go false e false f k = absurd (true≢false (sym k))
-
-le-not-above : (s t : Bool) (A B : ℕ) → (below s A t B || level s A t B) ≡ true → below t B s A ≡ false
-le-not-above false false A B h = le-ltb B A (elim (less-or-same A B A B _ h) [ inl k ↦ omega arith | inr k ↦ omega arith ])
-le-not-above false true A B h = elim (less-or-same 0 0 A B _ h) [ inl k ↦ absurd (omega arith) | inr k ↦ le-ltb 0 (B + A) (omega (arith, eqb-true A 0 (k .1))) ]
-le-not-above true false A B h = refl
-le-not-above true true A B h = le-ltb A B (elim (less-or-same B A A B _ h) [ inl k ↦ omega arith | inr k ↦ omega arith ])
-
-pub low-not-above : (x y : Float) → le x y ≡ true → lt y x ≡ false
-unfolding le lt eq
-low-not-above nan y h = absurd (true≢false (sym h))
-low-not-above (inf s) nan h = absurd (true≢false (sym h))
-low-not-above (inf true) (inf true) h = refl
-low-not-above (inf true) (inf false) h = refl
-low-not-above (inf false) (inf true) h = absurd (true≢false (sym h))
-low-not-above (inf false) (inf false) h = refl
-low-not-above (inf true) (fin t n d) h = refl
-low-not-above (inf false) (fin t n d) h = absurd (true≢false (sym h))
-low-not-above (fin s m e) nan h = absurd (true≢false (sym h))
-low-not-above (fin s m e) (inf true) h = absurd (true≢false (sym h))
-low-not-above (fin s m e) (inf false) h = refl
-low-not-above (fin s m e) (fin t n d) h = le-not-above s t (m * up e * down d) (n * up d * down e) h
+low-not-above : (x y : Float) → le x y ≡ true → lt y x ≡ false
+low-not-above x y h = refute (lt y x) (λ t. absurd (le-lt-clash x y (holds h) (holds t)))
 
 -- an edge with both ends on one side adds nothing
 edge-high : (a b p : P) → le (a .y) (p .y) ≡ false → le (b .y) (p .y) ≡ false → edge a b p ≡ pos 0

@@ -1,4 +1,5 @@
 // Points, outlines and winding: geom.rs. The cores take every f64, NaN and infinities too.
+pub mod checked;
 pub mod inside;
 pub mod limits;
 pub mod point;

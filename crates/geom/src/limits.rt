@@ -1,7 +1,8 @@
 // Document 01's limits, named in this one place, and the tests that hold input to them.
 ghost use mathlib.Core.Path.{_≡_};
 ghost use Rattle.geom.specs.Outline.{rising};
-ghost use Rattle.geom.specs.Limits.{within, goodNumber, goodNumbers, goodSpacing, goodLen, goodStep, goodInset, goodStagger, goodCell, goodPasses, goodUnderlay, goodSplit, goodSplitGiven, goodTurn, goodOutline, goodLine};
+ghost use Rattle.geom.specs.Limits.{within, goodNumber, goodPoint, goodNumbers, goodSpacing, goodLen, goodStep, goodInset, goodStagger, goodCell, goodPasses, goodUnderlay, goodSplit, goodSplitGiven, goodTurn, goodOutline, goodLine};
+use crate::point::P;
 use leaves::is_finite;
 
 // Of an outline; of an outline in all; of one rail or line; of a column.
@@ -30,6 +31,15 @@ pub fn good_number(x: f64) -> bool
     ensures { λ r. ⌜ r ≡ goodNumber x ⌝ }
 {
     within(-LARGEST, LARGEST, x)
+}
+
+pub fn good_point(p: P) -> bool
+    ensures { λ r. ⌜ r ≡ goodPoint p ⌝ }
+{
+    if good_number(p.x) {
+        return good_number(p.y);
+    }
+    false
 }
 
 // No early way out: so it compiles to wide compares.

@@ -15,8 +15,8 @@ use lib.Ieee.Compare.{differs-from-itself}
 use lib.Ieee.Digits.{Equals, odd-val}
 use lib.Ieee.Fits.{down-pos}
 use lib.Ieee.Bits.{ofBits-toBits}
-use Rattle.leaves.specs.Root.{root}
-use Rattle.leaves.specs.Decode.{read}
+use Rattle.numbers.specs.Root.{root}
+use Rattle.numbers.specs.Decode.{read}
 
 pub is-nan : (x : Float) → ne x x ≡ true → x ≡ nan
 is-nan x h = differs-from-itself x (subst T (sym h) tt)

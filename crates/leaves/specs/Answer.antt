@@ -3,10 +3,10 @@ use Prim.Native.Nat.{ℕ}
 use mathlib.Core.Bool.{Bool, true, false, _&&_, cond}
 use lib.Ieee.{Float, le}
 use Rattle.refusal.specs.Refusal.{DONE, NUMBER, Answer, done, refused, numberUnless}
-use Rattle.leaves.specs.Num.{zero64}
-use Rattle.leaves.specs.Root.{root}
-use Rattle.leaves.specs.Whole.{floor, ceil}
-use Rattle.leaves.specs.Order.{finite, before, smaller, larger, magnitude}
+use Rattle.numbers.specs.Num.{zero64}
+use Rattle.numbers.specs.Root.{root}
+use Rattle.numbers.specs.Whole.{floor, ceil}
+use Rattle.numbers.specs.Order.{finite, before, smaller, larger, magnitude}
 use Rattle.leaves.specs.declared.checked.Leaf.{Leaf}
 use Rattle.leaves.specs.declared.checked.Leaf.the-variants.{Value, Refused}
 use Rattle.leaves.specs.declared.checked.Place.{Place}

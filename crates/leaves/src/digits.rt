@@ -2,7 +2,7 @@
 ghost use mathlib.Core.Path.{_≡_};
 ghost use Prim.Native.Nat.{ℕ, _+_, _*_, _^_, _<_, _≤_};
 ghost use lib.Ieee.{binary64, ofBits};
-ghost use Rattle.leaves.specs.Root.{nearRoot, rootUnits, root};
+ghost use Rattle.numbers.specs.Root.{nearRoot, rootUnits, root};
 
 // The whole root of w * 2^52, and what is left of it.
 pub struct Rooted {

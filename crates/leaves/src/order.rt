@@ -1,6 +1,6 @@
 // The total order, -0 before +0, and what goes by it.
 ghost use mathlib.Core.Path.{_≡_};
-ghost use Rattle.leaves.specs.Order.{negative, finite, before, smaller, larger, magnitude};
+ghost use Rattle.numbers.specs.Order.{negative, finite, before, smaller, larger, magnitude};
 
 // Whether the sign is set: of -0.0 too. A NaN has none.
 pub fn is_negative(x: f64) -> bool

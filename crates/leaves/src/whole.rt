@@ -2,7 +2,7 @@
 ghost use mathlib.Core.Path.{_≡_};
 ghost use mathlib.Core.Bool.{cond};
 ghost use lib.Ieee.{neg};
-ghost use Rattle.leaves.specs.Whole.{wholeOf, floor, ceil};
+ghost use Rattle.numbers.specs.Whole.{wholeOf, floor, ceil};
 use crate::order::is_negative;
 use crate::order::magnitude;
 

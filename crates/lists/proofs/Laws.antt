@@ -85,7 +85,7 @@ room-fits v left h = lt-of-lt-of-le h (pow-mono (most left))
     most left = omega arith
 
 -- ---- signed numbers
-pub minus-one : (n : ℤ) → negsuc 0 -ℤ n ≡ predℤ (negℤ n)
+minus-one : (n : ℤ) → negsuc 0 -ℤ n ≡ predℤ (negℤ n)
 minus-one n = predℤ-+ℤ (pos 0) (negℤ n) ∙ ap predℤ (+ℤ-idl (negℤ n))
 
 again : (z : ℤ) → mag z < 2 ^ 63 → toZ w64 (ofZ w64 z) ≡ z
@@ -137,6 +137,11 @@ mirrored b l h =
     last : (b : ℕ) → 2 ^ 63 ≤ b → b < 2 ^ 64 → 18446744073709551615 - b ≡ 2 ^ 64 - suc b
     last b l h = omega arith
 
+-- ---- a truth value as a number
+pub bit : (t : Bool) → boolByte t ≡ cond t 1 0
+bit true = refl
+bit false = refl
+
 -- ---- lines
 pub framed-length : (s : List ℕ) → framed s ≡ true → length s ≡ 53
 unfolding framed
@@ -145,7 +150,3 @@ framed-length s h = eqb-true (length s) 53 (first (eqb (length s) 53) _ h)
     first : (a b : Bool) → (a && b) ≡ true → a ≡ true
     first true b h = refl
     first false b h = h
-
-pub bit : (t : Bool) → boolByte t ≡ cond t 1 0
-bit true = refl
-bit false = refl

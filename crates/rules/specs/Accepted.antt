@@ -1,17 +1,18 @@
 -- What the checks of an accepted fill say of its numbers. Assumes nothing.
-use mathlib.Core.Path.{_≡_, refl, sym, ap, _∙_, subst}
+use mathlib.Core.Path.{_≡_, refl}
 use mathlib.Core.Bool.{Bool, true, false, not, _&&_, cond}
 use mathlib.Core.List.{List, [], _∷_}
-use Prim.Native.Nat.{ℕ, zero, suc, _-_, _≤_}
+use Prim.Native.Nat.{ℕ, suc, _-_, _≤_}
 use native.Mathlib.Omega.{arith}
 use lib.Dec.{T, ltb, leb}
 use lib.IntN.{pos, negsuc}
-use lib.ListN.{length, take, drop}
+use lib.ListN.{length, drop}
 use lib.Ieee.{Float, le}
 use borrow.Author.Tests.{ltb-false, leb-true}
 use Rattle.refusal.specs.Refusal.{DONE}
-use Rattle.leaves.specs.Num.{_⊕_, _⊗_, literal, half, real}
-use Rattle.leaves.specs.Order.{finite, magnitude}
+use Rattle.numbers.specs.Num.{_⊕_, _⊗_, literal, half, real}
+use Rattle.numbers.specs.Order.{finite, magnitude}
+use Rattle.numbers.specs.Laws.{holds}
 use Rattle.seqs.specs.Lists.{All}
 use Rattle.seqs.specs.All.{all-take}
 use Rattle.seqs.specs.Tests.{and-both}
@@ -51,12 +52,9 @@ pub record Checked (outline : List (List P)) (g : Settings) (cyc : ℕ) : Type 0
   pub unit : Range (literal 999999 1000000) (literal 1000001 1000000) (g .cosine ⊗ g .cosine ⊕ g .sine ⊗ g .sine)
   pub rows : length (rowNumbers g (edges g outline)) ≤ 4096
 
-so : {b : Bool} → b ≡ true → T b
-so e = subst T (sym e) tt
-
 range : (lo hi x : Float) → within lo hi x ≡ true → Range lo hi x
 unfolding within
-range lo hi x e = let h = and-both (le lo x) (le x hi) e in record { least = so (h .0); most = so (h .1) }
+range lo hi x e = let h = and-both (le lo x) (le x hi) e in record { least = holds (h .0); most = holds (h .1) }
 
 -- a check that was passed
 passed : (b : Bool) (n r : ℕ) → cond (not b) (suc n) r ≡ 0 → (b ≡ true) × (r ≡ 0)
@@ -72,7 +70,7 @@ unfolding goodNumbers goodNumber
 all-numbers [] e = tt
 all-numbers (x ∷ l) e =
     let h = and-both (finite x && le (magnitude x) largest) (goodNumbers l) e in
-    (so (and-both (finite x) (le (magnitude x) largest) (h .0) .1), all-numbers l (h .1))
+    (holds (and-both (finite x) (le (magnitude x) largest) (h .0) .1), all-numbers l (h .1))
 
 all-points : (l : List Float) → All Small l → All Corner (points l)
 unfolding points
@@ -86,6 +84,10 @@ all-cut a [] l h = tt
 all-cut a (e ∷ es) l h = (all-take Corner (e - a) (drop a l) (all-drop Corner a l h), all-cut e es l h)
 
 module _ (corners : List Float) (ends : List ℕ) (g : Settings) (stagger : ℕ) where
+  pub laid-out : Accepted corners ends g stagger → goodOutline corners ends ≡ true
+  unfolding gate
+  laid-out e = passed (goodOutline corners ends) 0 _ e .0
+
   pub checked : Accepted corners ends g stagger → Checked (rings corners ends) g stagger
   unfolding gate goodSettings goodSpacing goodLen goodInset goodTurn rings
   checked e =
@@ -111,8 +113,8 @@ module _ (corners : List Float) (ends : List ℕ) (g : Settings) (stagger : ℕ)
         inset = range (real (negsuc 99)) (real (pos 100)) (g .inset) (s3 .1);
         pull = range (real (negsuc 99)) (real (pos 100)) (g .pull) (s4 .1);
         stagger = leb-true stagger 1000 (s5 .1);
-        cosine = so (t2 .0);
-        sine = so (t2 .1);
+        cosine = holds (t2 .0);
+        sine = holds (t2 .1);
         unit = range (literal 999999 1000000) (literal 1000001 1000000) (g .cosine ⊗ g .cosine ⊕ g .sine ⊗ g .sine) (t3 .1);
         rows = ltb-false 4096 (length (rowNumbers g (edges g (rings corners ends)))) many;
       }

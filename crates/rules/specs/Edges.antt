@@ -1,33 +1,30 @@
 -- Sizes of an accepted fill's edges, and of where they cross a row. Assumes nothing.
 use mathlib.Core.Path.{_≡_, refl, sym, ap, _∙_, subst}
 use mathlib.Core.Bool.{Bool, true, false, not, cond}
-use mathlib.Core.List.{List, [], _∷_, _++_, map}
-use mathlib.Core.Logic.{_⊎_, inl, inr}
-use Prim.Native.Nat.{ℕ, zero, suc, _+_, _-_, _*_, _^_, _≤_, _<_, zero-le}
-use native.Mathlib.Nat.{le-trans, le-of-eq, le-of-lt, lt-irrefl, lt-of-le-of-lt, lt-of-lt-of-le, eq-zero-or-pos, zero-mul, mul-pos, mul-comm, mul-assoc, mul-left-comm, mul-le-mul, mul-le-mul-right, mul-le-mul-left, le-of-mul-le-mul-right}
+use mathlib.Core.List.{List, [], _∷_, map}
+use mathlib.Core.Logic.{inl, inr}
+use Prim.Native.Nat.{ℕ, _+_, _-_, _*_, _^_, _≤_, _<_}
+use native.Mathlib.Nat.{le-trans, le-of-eq, le-of-lt, lt-irrefl, lt-of-le-of-lt, lt-of-lt-of-le, eq-zero-or-pos, zero-mul, mul-pos, mul-assoc, mul-le-mul, mul-le-mul-right, mul-le-mul-left, le-of-mul-le-mul-right}
 use native.Mathlib.Omega.{arith}
 use lib.Dec.{T, leb, leb→le, nleb→lt, lit<, lit≤}
 use borrow.Author.Tests.{ne-eqb}
 use lib.Pow.{pow-pos, pow-add, pow-mono}
-use lib.IntN.{ℤ, pos, negsuc}
-use lib.Ieee.{Float, nan, inf, fin, binary64, up, down, round, mul, div, neg, fits, le, lt, isNan, size, unlike}
+use lib.IntN.{pos}
+use lib.Ieee.{Float, nan, inf, fin, binary64, up, down, round, ofInt, mul, div, neg, fits, le, lt, isNan, size, unlike}
 use lib.Ieee.Fits.{down-pos, up-pos, add-fits, sub-fits}
 use lib.Ieee.Digits.{size-lt, size-le, size-reaches}
 use lib.Ieee.Positive.{den, den-pos}
-use Rattle.leaves.specs.Num.{_⊕_, _⊖_, _⊗_, _⊘_, literal, zero64, real}
-use Rattle.leaves.specs.Order.{finite, magnitude}
-use Rattle.leaves.specs.Value.{Within, AtLeast, unitsOf}
-use Rattle.leaves.specs.Units.{units-exact}
-use Rattle.leaves.specs.FloatOrder as order
-use Rattle.leaves.specs.FloatOrder.{lt-le, le-or-lt}
-use Rattle.leaves.specs.Fraction.{over, under, plus, less, le→cross}
-use Rattle.leaves.specs.Rounded.{Rounded, rounded-le, sub-rounded}
-use Rattle.leaves.specs.Choice.{magnitude-is}
-use Rattle.leaves.specs.WholeLaws.{neg-round}
-use Rattle.leaves.specs.Monotone.{sub-mono, sub-up, at-least-zero}
-use Rattle.leaves.specs.Bounds.{within-finite, within-more, within-neg, within-le, within-magnitude, within-add, within-sub, within-mul, within-div, within-round, within-literal, within-real, atleast-le, atleast-above}
+use Rattle.numbers.specs.Num.{_⊕_, _⊖_, _⊗_, _⊘_, literal, zero64, real}
+use Rattle.numbers.specs.Order.{finite, magnitude}
+use Rattle.numbers.specs.Value.{Within, AtLeast, unitsOf}
+use Rattle.numbers.specs.Units.{units-exact}
+use Rattle.numbers.specs.Laws as laws
+use Rattle.numbers.specs.Laws.{lt-le, le-or-lt, magnitude-is, within-finite, within-more, within-neg, within-le, within-magnitude, within-add, within-sub, within-mul, within-literal, within-real, atleast-le, atleast-above, holds, finite-number, le-lt-trans, within-squares}
+use Rattle.numbers.specs.Fraction.{over, under, le→cross}
+use Rattle.numbers.specs.Rounded.{Rounded, rounded-le, sub-rounded, neg-round}
+use Rattle.numbers.specs.Monotone.{at-least-zero}
+use Rattle.numbers.specs.Bounds.{within-round}
 use Rattle.seqs.specs.Lists.{each, All}
-use Rattle.seqs.specs.All.{all-map}
 use Rattle.geom.specs.declared.point.P.{P}
 use Rattle.geom.specs.Point.{rotate}
 use Rattle.geom.specs.Limits.{largest}
@@ -36,7 +33,6 @@ use Rattle.rules.specs.declared.Edge.{Edge}
 use Rattle.rules.specs.Fill.{sidesTo, sides, edgeOf, keptSide, turned, edges}
 use Rattle.rules.specs.Accepted.{Corner, Checked}
 use Rattle.rules.specs.Alls.{all-mapped, all-parts}
-use Rattle.rules.specs.Turn.{turn-within}
 
 -- ---- the height of a kept edge
 
@@ -234,14 +230,8 @@ most (fin r k c) (fin s m e) ft t0 th fh fits h0 =
 
 -- ---- edges
 
-so : {b : Bool} → b ≡ true → T b
-so e = subst T (sym e) tt
-
 pub within-number : (n : ℕ) (x : Float) → Within n x → T (not (isNan x))
-unfolding Within isNan
-within-number n nan h = h
-within-number n (inf s) h = tt
-within-number n (fin s m e) h = tt
+within-number n x h = finite-number x (within-finite n x h)
 
 -- a test that failed
 not-lt-le : (x y : Float) → T (not (isNan x)) → T (not (isNan y)) → lt x y ≡ false → T (le y x)
@@ -293,14 +283,14 @@ kept-good a b p q = go (lt (magnitude (a .y ⊖ b .y)) (literal 1 (10 ^ 9))) ref
     fb = within-finite 19 (b .y) (q .1)
 
     high : (x y : Float) → T (le (literal 1 (10 ^ 9)) x) → T (le x y) → T (finite y) → AtLeast 30 y
-    high x y h k f = atleast-le 30 (literal 1 (10 ^ 9)) y least f (order.le-trans (literal 1 (10 ^ 9)) x y h k)
+    high x y h k f = atleast-le 30 (literal 1 (10 ^ 9)) y least f (laws.le-trans (literal 1 (10 ^ 9)) x y h k)
 
     keep : T (le (literal 1 (10 ^ 9)) (magnitude (a .y ⊖ b .y))) → All Good (cond (lt (a .y) (b .y)) (edgeOf a b true ∷ []) (edgeOf b a false ∷ []))
     keep m = side (lt (a .y) (b .y)) refl
       where
         side : (t : Bool) → lt (a .y) (b .y) ≡ t → All Good (cond t (edgeOf a b true ∷ []) (edgeOf b a false ∷ []))
         side true e =
-            let h = up-down (a .y) (b .y) fa fb (lt-le (a .y) (b .y) (so e)) in
+            let h = up-down (a .y) (b .y) fa fb (lt-le (a .y) (b .y) (holds e)) in
             (edge-good a b true p q (high (magnitude (a .y ⊖ b .y)) (b .y ⊖ a .y) m h (within-finite 20 (b .y ⊖ a .y) (within-sub 19 (b .y) (a .y) (lit≤ tt) (q .1) (p .1)))), tt)
         side false e =
             let h = up-up (b .y) (a .y) fb fa (not-lt-le (a .y) (b .y) (within-number 19 (a .y) (p .1)) (within-number 19 (b .y) (q .1)) e) in
@@ -312,9 +302,16 @@ kept-good a b p q = go (lt (magnitude (a .y ⊖ b .y)) (literal 1 (10 ^ 9))) ref
 
 -- ---- the fill's edges
 
+below-four : T (lt (literal 1000001 1000000) (real (pos 4)))
+unfolding literal round ofInt lt
+below-four = tt
+
 module _ (outline : List (List P)) (g : Settings) (cyc : ℕ) (ok : Checked outline g cyc) where
+  -- cosine and sine are at most 2
   pub turn : Within 1 (g .cosine) × Within 1 (g .sine)
-  turn = turn-within (g .cosine) (g .sine) (ok .cosine) (ok .sine) (ok .unit)
+  turn =
+      let sum = g .cosine ⊗ g .cosine ⊕ g .sine ⊗ g .sine in
+      within-squares 1 (g .cosine) (g .sine) (ok .cosine) (ok .sine) (le-lt-trans sum (literal 1000001 1000000) (real (pos 4)) (ok .unit .most) below-four)
 
   small : (x : Float) → T (le (magnitude x) largest) → Within 17 x
   unfolding largest

@@ -1,6 +1,6 @@
 -- The fill, in the words of document 01 and the source's fill.rs: edges, rows, pieces, sections and stitches.
 -- Floats are f64, each operation rounded once, in the order the source writes them. Definitions only.
-use Prim.Native.Nat.{ℕ, zero, suc, _+_, _-_, _*_, _%_, _^_}
+use Prim.Native.Nat.{ℕ, _+_, _-_, _%_, _^_}
 use mathlib.Core.Bool.{Bool, true, false, not, _&&_, cond}
 use mathlib.Core.List.{List, [], _∷_, _++_, map, reverse}
 use mathlib.Core.Option.{Option, none, some}
@@ -8,10 +8,10 @@ use lib.Dec.{eqb}
 use lib.IntN.{ℤ, pos, negsuc, natAbs, _+ℤ_, _-ℤ_}
 use lib.Signed.{leZ}
 use lib.ListN.{length, getD}
-use lib.Ieee.{Float, fin, inf, neg, lt, le, toSigned, toUnsigned}
-use Rattle.leaves.specs.Num.{_⊕_, _⊖_, _⊗_, _⊘_, real, literal, zero64, half}
-use Rattle.leaves.specs.Order.{before, smaller, larger, magnitude}
-use Rattle.leaves.specs.Whole.{floor, ceil}
+use lib.Ieee.{Float, inf, neg, lt, le, toSigned, toUnsigned}
+use Rattle.numbers.specs.Num.{_⊕_, _⊖_, _⊗_, _⊘_, real, literal, zero64, half}
+use Rattle.numbers.specs.Order.{before, smaller, larger, magnitude}
+use Rattle.numbers.specs.Whole.{floor, ceil}
 use Rattle.seqs.specs.Lists.{upto, keepIf, sift, each, fold, sortBy, byKey}
 use Rattle.geom.specs.declared.point.P.{P}
 use Rattle.geom.specs.Point.{point, rotate, dist}
@@ -66,9 +66,11 @@ howMany lo hi = cond (leZ lo hi) (natAbs (hi -ℤ lo) + 1) 0
 unfoldable pub through : ℤ → ℤ → List ℤ
 through lo hi = map (λ i. lo +ℤ pos i) (upto 0 (howMany lo hi))
 
+-- the first y0 in total order: `edges[0].y0` once they are sorted
 unfoldable pub ymin : List Edge → Float
 ymin es = fold (λ e y. smaller y (e .y0)) (inf false) es
 
+-- the last y1: `fold(f64::NEG_INFINITY, f64::max)`
 unfoldable pub ymax : List Edge → Float
 ymax es = fold (λ e y. larger y (e .y1)) (inf true) es
 
@@ -91,6 +93,7 @@ rowAt g k = (real k ⊕ half) ⊗ g .spacing
 
 -- ---- one row, taken alone
 
+-- what is read past the last edge
 abbrev pub noEdge : Edge
 noEdge = record { y0 = zero64; y1 = zero64; x0 = zero64; dxdy = zero64; falls = true }
 
@@ -98,10 +101,11 @@ noEdge = record { y0 = zero64; y1 = zero64; x0 = zero64; dxdy = zero64; falls = 
 abbrev pub edge : List Edge → ℕ → Edge
 edge es i = getD es i noEdge
 
--- a kept edge crosses row y when y0 <= y < y1
+-- a kept edge crosses row y when y0 <= y < y1: it has started
 unfoldable pub starts : List Edge → Float → ℕ → Bool
 starts es y i = le (edge es i .y0) y
 
+-- and it goes on
 unfoldable pub lives : List Edge → Float → ℕ → Bool
 lives es y i = lt y (edge es i .y1)
 
@@ -134,13 +138,21 @@ spans rule w start (c ∷ cs) =
     let now = inside rule (w +ℤ c .1) in
     keepIf (was && not now) (start, x) (spans rule (w +ℤ c .1) (cond (not was && now) x start) cs)
 
+-- inset - pull
+unfoldable pub shrink : Settings → Float
+shrink g = g .inset ⊖ g .pull
+
 -- a piece runs from start + (inset - pull) to end - (inset - pull)
 unfoldable pub pieceOf : Settings → ℤ → Float × Float → Piece
-pieceOf g k ab = record { k = k; y = rowAt g k; xa = ab .0 ⊕ (g .inset ⊖ g .pull); xb = ab .1 ⊖ (g .inset ⊖ g .pull) }
+pieceOf g k ab = record { k = k; y = rowAt g k; xa = ab .0 ⊕ shrink g; xb = ab .1 ⊖ shrink g }
 
--- and is kept when its width is at least max(spacing·0.5, 3.0)
+-- max(spacing·0.5, 3.0)
+unfoldable pub minRow : Settings → Float
+minRow g = larger (g .spacing ⊗ half) (literal 3 1)
+
+-- and is kept when its width is at least that
 unfoldable pub wide : Settings → Piece → Bool
-wide g p = le (larger (g .spacing ⊗ half) (literal 3 1)) (p .xb ⊖ p .xa)
+wide g p = le (minRow g) (p .xb ⊖ p .xa)
 
 -- row k's kept pieces, of the edges at these places
 unfoldable pub piecesAt : FillRule → Settings → List Edge → ℤ → List ℕ → List Piece
@@ -152,7 +164,7 @@ piecesOf rule g es k = piecesAt rule g es k (crossed es (rowAt g k))
 
 -- ---- sections
 
--- they overlap strictly
+-- a piece of the row before and one of this row overlap strictly
 unfoldable pub overlap : Piece → Piece → Bool
 overlap last next = lt (last .xa) (next .xb) && lt (next .xa) (last .xb)
 
@@ -256,14 +268,21 @@ remEuclid (negsuc a) n = n - 1 - a % n
 unfoldable pub offset : Settings → ℕ → ℤ → Float
 offset g stagger k = real (pos (remEuclid k (cycle stagger))) ⊗ g .len ⊘ real (pos (cycle stagger))
 
--- the needle points between a row's ends, left to right: from m0 to m1
+-- min(len·0.25, 5.0)
+unfoldable pub minEnd : Settings → Float
+minEnd g = smaller (g .len ⊗ literal 1 4) (literal 5 1)
+
+-- `((xa + min_end - off) / len).ceil() as i64`
+unfoldable pub m0 : Settings → ℕ → Piece → ℤ
+m0 g stagger p = toSigned 63 (ceil ((p .xa ⊕ minEnd g ⊖ offset g stagger (p .k)) ⊘ g .len))
+
+-- `((xb - min_end - off) / len).floor() as i64`
+unfoldable pub m1 : Settings → ℕ → Piece → ℤ
+m1 g stagger p = toSigned 63 (floor ((p .xb ⊖ minEnd g ⊖ offset g stagger (p .k)) ⊘ g .len))
+
+-- the needle points between a row's ends, left to right: off + m·len, m from m0 to m1
 unfoldable pub needles : Settings → ℕ → Piece → List Float
-needles g stagger p =
-    let off = offset g stagger (p .k) in
-    let minEnd = smaller (g .len ⊗ literal 1 4) (literal 5 1) in
-    let m0 = toSigned 63 (ceil ((p .xa ⊕ minEnd ⊖ off) ⊘ g .len)) in
-    let m1 = toSigned 63 (floor ((p .xb ⊖ minEnd ⊖ off) ⊘ g .len)) in
-    map (λ m. off ⊕ real m ⊗ g .len) (through m0 m1)
+needles g stagger p = map (λ m. offset g stagger (p .k) ⊕ real m ⊗ g .len) (through (m0 g stagger p) (m1 g stagger p))
 
 -- a row's points in the order sewn: forward where its place in the section is even
 unfoldable pub rowPoints : Settings → ℕ → Entry → List P
@@ -272,17 +291,20 @@ rowPoints g stagger e =
     let ps = map (λ x. point x (p .y)) (p .xa ∷ (needles g stagger p ++ (p .xb ∷ []))) in
     cond (eqb (e .nth % 2) 0) ps (reverse ps)
 
--- the points that split the way from p to q into n = ceil(d / len) as usize
+-- n, `(d / len).ceil() as usize`
+unfoldable pub parts : Settings → P → P → ℕ
+parts g p q = toUnsigned 64 (ceil (dist p q ⊘ g .len))
+
+-- the points that split the way from p to q in n
 unfoldable pub between : Settings → P → P → List P
-between g p q =
-    let n = toUnsigned 64 (ceil (dist p q ⊘ g .len)) in
-    map (along p q n) (upto 1 (n - 1))
+between g p q = map (along p q (parts g p q)) (upto 1 (parts g p q - 1))
 
 -- from p to each of the points in turn, links between rows as well
 unfoldable pub sewFrom : Settings → P → List P → List P
 sewFrom g p [] = []
 sewFrom g p (q ∷ qs) = between g p q ++ (q ∷ sewFrom g q qs)
 
+-- a section's points, the first one first
 unfoldable pub sew : Settings → List P → List P
 sew g [] = []
 sew g (p ∷ ps) = p ∷ sewFrom g p ps

@@ -8,7 +8,10 @@ pub mod FillSections
 pub mod Sweep
 pub mod SweepLaws
 pub mod Accepted
-pub mod Turn
 pub mod Edges
 pub mod Rows
+pub mod Pieces
+pub mod Stitches
+pub mod Counts
 pub mod Theorems
+pub mod CallLaws

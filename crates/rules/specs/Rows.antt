@@ -1,30 +1,26 @@
 -- The rows of an accepted fill: their numbers are small, `k_lo` and `k_hi` lose nothing as i64, no row stands above the one before it, and a row's crossings have one order.
 -- Assumes nothing.
-use mathlib.Core.Path.{_≡_, refl, sym, ap, _∙_, subst}
+use mathlib.Core.Path.{_≡_, refl, ap, subst}
 use mathlib.Core.Bool.{Bool, true, false, not, cond}
-use mathlib.Core.List.{List, [], _∷_, _++_, map}
-use mathlib.Core.Logic.{_⊎_, inl, inr, ⊎-elim}
-use Prim.Native.Nat.{ℕ, zero, suc, _+_, _-_, _*_, _^_, _≤_, _<_, zero-le}
+use mathlib.Core.List.{List, [], _∷_, map}
+use mathlib.Core.Logic.{⊎-elim}
+use Prim.Native.Nat.{ℕ, zero, suc, _+_, _^_, _≤_, _<_, zero-le}
+use native.Mathlib.Nat.{lt-irrefl}
 use native.Mathlib.Omega.{arith}
-use lib.Dec.{T, leb, le→leb, lit<, lit≤}
+use lib.Dec.{T, leb, le→leb, lit≤}
 use lib.IntN.{ℤ, pos, negsuc, sucℤ, natAbs, _+ℤ_}
 use lib.Pow.{pow-pos}
 use lib.Signed.{leZ}
-use lib.ListN.{length, getD}
-use lib.Ieee.{Float, nan, inf, fin, binary64, fits, le, lt, isNan, toSigned, ofInt}
+use lib.ListN.{length}
+use lib.Ieee.{Float, nan, inf, fin, binary64, fits, le, isNan}
 use lib.Ieee.Bits.{is-true}
 use lib.Ieee.Fits.{add-fits, sub-fits}
-use Rattle.leaves.specs.Num.{_⊕_, _⊖_, _⊗_, _⊘_, zero64, half, real}
-use Rattle.leaves.specs.Order.{finite, before, smaller, larger}
-use Rattle.leaves.specs.Whole.{floor, ceil}
-use Rattle.leaves.specs.Value.{Within, AtLeast, IsWhole}
-use Rattle.leaves.specs.FloatOrder.{le-refl, lt-le}
-use Rattle.leaves.specs.OrderLaws.{before-asym, before-trans, before-total, not-before-le}
-use Rattle.leaves.specs.Choice.{smaller-has, larger-has}
-use Rattle.leaves.specs.Monotone.{real-mono, add-mono, mul-mono}
-use Rattle.leaves.specs.Bounds.{within-finite, within-more, within-between, within-add, within-sub, within-mul, within-div, within-real, atleast-le, atleast-above}
-use Rattle.leaves.specs.CastLaws.{ceil-signed, floor-signed}
-use Rattle.seqs.specs.Lists.{fold, upto, byKey, sortBy, All, Strict, Keyed, Sorted}
+use Rattle.numbers.specs.Num.{_⊕_, _⊖_, _⊗_, _⊘_, zero64, half, real}
+use Rattle.numbers.specs.Order.{before, smaller, larger}
+use Rattle.numbers.specs.Whole.{floor, ceil}
+use Rattle.numbers.specs.Value.{Within, AtLeast, IsWhole}
+use Rattle.numbers.specs.Laws.{le-refl, lt-le, before-asym, before-trans, before-total, not-before-le, smaller-has, larger-has, real-mono, add-mono, mul-mono, within-finite, within-more, within-between, within-add, within-sub, within-mul, within-div, within-real, atleast-le, atleast-above, ceil-signed, floor-signed, holds}
+use Rattle.seqs.specs.Lists.{fold, upto, byKey, sortBy, All, Strict, Keyed}
 use Rattle.seqs.specs.Tests.{refute, clash}
 use Rattle.seqs.specs.All.{all-map, sorted-map}
 use Rattle.seqs.specs.ByKey.{by-key-strict}
@@ -38,9 +34,6 @@ use Rattle.rules.specs.Sweep.{InOrder, byStart}
 use Rattle.rules.specs.Accepted.{Checked}
 use Rattle.rules.specs.Alls.{all-get}
 use Rattle.rules.specs.Edges.{Good, within-number, edges-good}
-
-so : {b : Bool} → b ≡ true → T b
-so e = subst T (sym e) tt
 
 -- what is known of a row's number
 abbrev pub Fair : ℤ → Type 0
@@ -102,6 +95,11 @@ module _ (outline : List (List P)) (g : Settings) (cyc : ℕ) (ok : Checked outl
     hi-whole : IsWhole 21 (floor (ymax (e ∷ es) ⊘ g .spacing ⊖ half)) (kHi g (e ∷ es))
     unfolding kHi
     hi-whole = floor-signed 21 (ymax (e ∷ es) ⊘ g .spacing ⊖ half) (lit≤ tt) (sub-fits binary64 (ymax (e ∷ es) ⊘ g .spacing) half) (in-rows (ymax (e ∷ es)) (ymax-within e es good))
+
+  -- both, of edges that are there
+  pub row-ends-whole : (es : List Edge) → All Good es → 0 < length es → IsWhole 21 (ceil (ymin es ⊘ g .spacing ⊖ half)) (kLo g es) × IsWhole 21 (floor (ymax es ⊘ g .spacing ⊖ half)) (kHi g es)
+  row-ends-whole [] h l = absurd (lt-irrefl 0 l)
+  row-ends-whole (e ∷ es) h l = (lo-whole e es h, hi-whole e es h)
 
   -- ---- row numbers
 
@@ -168,8 +166,8 @@ module _ (outline : List (List P)) (g : Settings) (cyc : ℕ) (ok : Checked outl
     -- `before` orders keys that are numbers
     keyed : Keyed before key
     keyed = record {
-      one-way = λ i j e. refute (before (key j) (key i)) (λ d. absurd (before-asym (key i) (key j) (so e) (so d)));
-      trans = λ i j k d e. is-true (before (key i) (key k)) (before-trans (key i) (key j) (key k) (so d) (so e));
+      one-way = λ i j e. refute (before (key j) (key i)) (λ d. absurd (before-asym (key i) (key j) (holds e) (holds d)));
+      trans = λ i j k d e. is-true (before (key i) (key k)) (before-trans (key i) (key j) (key k) (holds d) (holds e));
       level = λ i j d e. ⊎-elim (λ h. absurd (subst T d h)) (λ r. ⊎-elim (λ h. absurd (subst T e h)) (λ q. q) r) (before-total (key i) (key j) (fit i) (fit j) (whole i) (whole j));
     }
 
@@ -200,5 +198,5 @@ module _ (outline : List (List P)) (g : Settings) (cyc : ℕ) (ok : Checked outl
       let o = by-key-strict before key (keyed key start-fits start-number) in
       record {
         all = sort-perm (byKey before key) (upto 0 (length (edges g outline)));
-        rising = sorted-map (λ i j e. not-before-le (key i) (key j) (start-number i) (start-number j) (λ d. ahead (before (key i) (key j)) (before (key j) (key i)) (leb i j) (λ p q. before-asym (key i) (key j) (so p) (so q)) e (is-true (before (key j) (key i)) d))) (sortBy (byKey before key) (upto 0 (length (edges g outline)))) (sort-ordered (byKey before key) (o .total) (o .trans) (upto 0 (length (edges g outline))));
+        rising = sorted-map (λ i j e. not-before-le (key i) (key j) (start-number i) (start-number j) (λ d. ahead (before (key i) (key j)) (before (key j) (key i)) (leb i j) (λ p q. before-asym (key i) (key j) (holds p) (holds q)) e (is-true (before (key j) (key i)) d))) (sortBy (byKey before key) (upto 0 (length (edges g outline)))) (sort-ordered (byKey before key) (o .total) (o .trans) (upto 0 (length (edges g outline))));
       }

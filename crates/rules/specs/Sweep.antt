@@ -6,7 +6,7 @@ use lib.IntN.{ℤ}
 use lib.Ieee.{Float, le}
 use lib.ListN.{length}
 use mathlib.Core.List.{List·Permᴰ}
-use Rattle.leaves.specs.Order.{before}
+use Rattle.numbers.specs.Order.{before}
 use Rattle.seqs.specs.Lists.{sift, takeWhile, dropWhile, sortBy, byKey, upto, Sorted}
 use Rattle.geom.specs.declared.rule.FillRule.{FillRule}
 use Rattle.rules.specs.declared.Settings.{Settings}

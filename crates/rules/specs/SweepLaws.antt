@@ -1,6 +1,6 @@
 -- The sweep finds in each row the pieces that the row has alone, wherever rows never go up and a row's crossings have one order. Assumes nothing.
 use mathlib.Core.Path.{_≡_, refl, sym, ap, _∙_, subst}
-use mathlib.Core.Bool.{Bool, true, false, _&&_}
+use mathlib.Core.Bool.{Bool}
 use mathlib.Core.List.{List, [], _∷_, _++_, map, List·Permᴰ, List·Permᴰ·nil, List·Permᴰ·trans, Permᴰ·append-right, Permᴰ·symm, IsChain, IsChain·nil, IsChain·singleton, IsChain·cons-cons, isChain-cons-cons}
 use Prim.Native.Nat.{ℕ}
 use lib.Dec.{T}
@@ -8,7 +8,7 @@ use lib.IntN.{ℤ, sucℤ}
 use lib.ListN.{length}
 use lib.Ieee.{Float, le, lt}
 use lib.Ieee.Bits.{is-true}
-use Rattle.leaves.specs.FloatOrder.{le-trans, le-lt-trans}
+use Rattle.numbers.specs.Laws.{le-trans, le-lt-trans, holds}
 use Rattle.seqs.specs.Lists.{sift, takeWhile, dropWhile, sortBy, upto, sweepBy, All, Sorted, Strict, Sorts}
 use Rattle.seqs.specs.All.{sorted-map}
 use Rattle.seqs.specs.Sift.{sift-append, sift-perm}
@@ -20,9 +20,6 @@ use Rattle.rules.specs.declared.Edge.{Edge}
 use Rattle.rules.specs.declared.Piece.{Piece}
 use Rattle.rules.specs.Fill.{edge, rowAt, starts, lives, byX, crossed, piecesAt, piecesOf}
 use Rattle.rules.specs.Sweep.{InOrder, swept, sweptBy}
-
-so : {b : Bool} → b ≡ true → T b
-so e = subst T (sym e) tt
 
 -- `Fair`: what is known of the rows' numbers
 module _ (rule : FillRule) (g : Settings) (es : List Edge) (Fair : ℤ → Type 0)
@@ -77,8 +74,8 @@ module _ (rule : FillRule) (g : Settings) (es : List Edge) (Fair : ℤ → Type 
   below : (r s : Row) → T (le (y-of r) (y-of s)) → Below begun going r s
   unfolding begun going starts lives
   below r s h = record {
-    begins = λ i t. is-true (le (edge es i .y0) (y-of s)) (le-trans (edge es i .y0) (y-of r) (y-of s) (so t) h);
-    goes-on = λ i t. is-true (lt (y-of r) (edge es i .y1)) (le-lt-trans (y-of r) (y-of s) (edge es i .y1) h (so t));
+    begins = λ i t. is-true (le (edge es i .y0) (y-of s)) (le-trans (edge es i .y0) (y-of r) (y-of s) (holds t) h);
+    goes-on = λ i t. is-true (lt (y-of r) (edge es i .y1)) (le-lt-trans (y-of r) (y-of s) (edge es i .y1) h (holds t));
   }
 
   rows-below : (ks : List ℤ) (h : All Fair ks) → IsChain (λ a b. b ≡ sucℤ a) ks → IsChain (Below begun going) (rows ks h)
@@ -90,9 +87,9 @@ module _ (rule : FillRule) (g : Settings) (es : List Edge) (Fair : ℤ → Type 
       IsChain·cons-cons (below (k, h .0) (j, h .1 .0) (subst (λ i. T (le (rowAt g k) (rowAt g i))) (sym (e .0)) (falls k (h .0) (subst Fair (e .0) (h .1 .0)))))
       (rows-below (j ∷ ks) (h .1) (e .1))
 
-  earlier : (waiting : List ℕ) → InOrder es waiting → Sorted (Earlier begun going) waiting
+  earlier : (waiting : List ℕ) → InOrder es waiting → Sorted (Earlier begun) waiting
   unfolding begun starts
-  earlier waiting w = sorted-map (λ i j h r t. is-true (le (edge es i .y0) (y-of r)) (le-trans (edge es i .y0) (edge es j .y0) (y-of r) h (so t))) waiting (w .rising)
+  earlier waiting w = sorted-map (λ i j h r t. is-true (le (edge es i .y0) (y-of r)) (le-trans (edge es i .y0) (edge es j .y0) (y-of r) h (holds t))) waiting (w .rising)
 
   module _ (waiting : List ℕ) (w : InOrder es waiting) (ks : List ℤ) (fair : All Fair ks) (run : IsChain (λ a b. b ≡ sucℤ a) ks) where
     by-sort : sweptBy (λ y. sortBy (byX es y)) rule g es [] waiting ks ≡ map (piecesOf rule g es) ks

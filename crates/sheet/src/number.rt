@@ -29,7 +29,7 @@ const MINUS_INFINITY: u64 = 0xfff0000000000000;
 const NAN: u64 = 0x7ff8000000000000;
 
 // The end of a leaf's line.
-fn is(l: Leaf) {
+fn end(l: Leaf) {
     say::text(b" is ");
     match l {
         Leaf::Value(v) => say::bits(to_bits(v)),
@@ -43,7 +43,7 @@ fn one(name: &[u8], x: u64, l: Leaf) {
     say::text(name);
     say::text(b" of ");
     say::bits(x);
-    is(l);
+    end(l);
 }
 
 // The start of a line of two operands.
@@ -73,12 +73,12 @@ fn magnitude(x: u64) {
 
 fn smaller(a: u64, b: u64) {
     both(b"smaller", a, b);
-    is(checked::smaller(of_bits(a), of_bits(b)));
+    end(checked::smaller(of_bits(a), of_bits(b)));
 }
 
 fn larger(a: u64, b: u64) {
     both(b"larger", a, b);
-    is(checked::larger(of_bits(a), of_bits(b)));
+    end(checked::larger(of_bits(a), of_bits(b)));
 }
 
 fn order(a: u64, b: u64) {

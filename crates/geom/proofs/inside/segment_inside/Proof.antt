@@ -1,9 +1,8 @@
 use mathlib.Core.Path.{_≡_, sym, _∙_, ap}
-use mathlib.Core.Bool.{true, false, _&&_}
-use Prim.Native.Nat.{ℕ, _+_, _-_, _≤_, _<_}
+use Prim.Native.Nat.{ℕ, _-_, _≤_}
 use Rattle.geom.specs.Outline.{rings}
-use Rattle.geom.specs.Inside.{pointInside, stepsInside, segmentInside}
-use Rattle.geom.proofs.Loops.{steps-next, steps-end}
+use Rattle.geom.specs.Inside.{stepsInside, segmentInside}
+use Rattle.geom.proofs.Loops.{steps-on, steps-out, steps-end}
 use borrow.Author.Needs.{needs}
 use Rattle.geom.proofs.inside.segment_inside.Statement.{statement}
 use Rattle.geom.proofs.inside.segment_inside.Tie as tie
@@ -17,22 +16,19 @@ abbrev μ-loop : tie.MeasureT-loop
 loop-holds : tie.Need-loop-holds Inv-loop μ-loop
 unfolding segmentInside
 loop-holds c =
+    let a = c .before .before .before .before .args in
     let e = rw (c .before .dist .ensures) at (c .steps .ensures) in
-    (search needs, ap (λ (m : ℕ). stepsInside (rings (c .before .before .before .before .args .corners .now) (c .before .before .before .before .args .ends .now)) (c .before .before .before .before .args .rule) (c .before .before .before .before .args .a) (c .before .before .before .before .args .b) m 1 (m - 1)) e)
+    (search needs, ap (λ (m : ℕ). stepsInside (rings (a .corners .now) (a .ends .now)) (a .rule) (a .a) (a .b) m 1 (m - 1)) e)
 
 loop-again : tie.Need-loop-again Inv-loop μ-loop
 loop-again c =
-    let a = c .before .before .before .before .before .before .before .before .before .args in
     let l = c .before .before .before .before .loop in
-    let q = rw (sym (rw (c .before .before .along .ensures) at (c .before .point-inside .ensures)) ∙ c .if1 .taken) at (steps-next (rings (a .corners .now) (a .ends .now)) (a .rule) (a .a) (a .b) (c .before .before .before .before .before .steps .result) (l .i) (search needs)) in
-    (search needs, sym q ∙ l .inv .1)
+    (search needs, sym (steps-on _ _ _ _ _ (l .i) (search needs) (c .before .before .along .ensures) (c .before .point-inside .ensures) (c .if1 .taken)) ∙ l .inv .1)
 
 returns : tie.Need-returns Inv-loop μ-loop
 returns c =
-    let a = c .before .before .before .before .before .before .before .before .before .args in
     let l = c .before .before .before .before .loop in
-    let q = rw (sym (rw (c .before .before .along .ensures) at (c .before .point-inside .ensures)) ∙ c .if1 .left) at (steps-next (rings (a .corners .now) (a .ends .now)) (a .rule) (a .a) (a .b) (c .before .before .before .before .before .steps .result) (l .i) (search needs)) in
-    sym q ∙ l .inv .1
+    sym (steps-out _ _ _ _ _ (l .i) (search needs) (c .before .before .along .ensures) (c .before .point-inside .ensures) (c .if1 .left)) ∙ l .inv .1
 
 returns-2 : tie.Need-returns-2 Inv-loop μ-loop
 returns-2 c =

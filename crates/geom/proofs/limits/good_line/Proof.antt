@@ -1,6 +1,5 @@
 use borrow.Author.Tests.{eq-eqb, ne-eqb}
 use Rattle.geom.specs.Limits.{goodLine}
-use borrow.Author.Needs.{needs}
 use Rattle.geom.proofs.limits.good_line.Statement.{statement}
 use Rattle.geom.proofs.limits.good_line.Tie as tie
 

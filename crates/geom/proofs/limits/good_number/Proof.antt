@@ -1,4 +1,4 @@
-use mathlib.Core.Path.{_≡_, sym, _∙_}
+use mathlib.Core.Path.{_∙_}
 use lib.Ieee.{ofBits, ofInt, round, neg}
 use Rattle.geom.specs.Limits.{largest}
 use Rattle.geom.specs.LimitsLaws.{number-within}

@@ -1,4 +1,3 @@
-use mathlib.Core.Path.{_≡_, sym}
 use lib.Ieee.{ofBits}
 use Rattle.geom.specs.Limits.{goodSplitGiven}
 use borrow.Author.Needs.{needs}

@@ -1,6 +1,6 @@
-use mathlib.Core.Path.{_≡_, sym, _∙_}
+use mathlib.Core.Path.{sym, _∙_}
 use lib.Ieee.{ofBits, round}
-use Rattle.leaves.specs.Num.{literal}
+use Rattle.numbers.specs.Num.{literal}
 use Rattle.geom.specs.Limits.{goodTurn}
 use borrow.Author.Needs.{needs}
 use Rattle.geom.proofs.limits.good_turn.Statement.{statement}

@@ -1,6 +1,4 @@
-use mathlib.Core.Path.{_≡_, sym}
 use Rattle.geom.specs.Limits.{within}
-use borrow.Author.Needs.{needs}
 use Rattle.geom.proofs.limits.within.Statement.{statement}
 use Rattle.geom.proofs.limits.within.Tie as tie
 

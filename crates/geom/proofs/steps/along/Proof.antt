@@ -1,4 +1,4 @@
-use mathlib.Core.Path.{_≡_, _∙_}
+use mathlib.Core.Path.{_∙_}
 use Rattle.geom.specs.Steps.{along}
 use borrow.Author.Needs.{needs}
 use Rattle.geom.proofs.steps.along.Statement.{statement}

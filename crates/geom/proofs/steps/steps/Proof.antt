@@ -1,4 +1,4 @@
-use mathlib.Core.Path.{_≡_, _∙_}
+use mathlib.Core.Path.{_∙_}
 use lib.Ieee.{ofBits}
 use Rattle.geom.specs.Steps.{steps}
 use borrow.Author.Needs.{needs}

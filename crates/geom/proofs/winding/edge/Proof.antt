@@ -1,7 +1,7 @@
-use mathlib.Core.Path.{_≡_, sym}
+use mathlib.Core.Path.{_≡_}
 use mathlib.Core.Bool.{true, false}
 use lib.Ieee.{ofBits, lt}
-use Rattle.leaves.specs.Num.{zero64}
+use Rattle.numbers.specs.Num.{zero64}
 use Rattle.geom.specs.Point.{minus, cross}
 use Rattle.geom.specs.Winding.{edge}
 use borrow.Author.Needs.{needs}

@@ -1,6 +1,5 @@
-use mathlib.Core.Path.{_≡_, sym, _∙_, ap}
+use mathlib.Core.Path.{sym, _∙_}
 use Rattle.geom.specs.Outline.{points}
-use Rattle.geom.specs.Winding.{oneSide}
 use Rattle.geom.specs.WindingLaws.{one-side-adds}
 use borrow.Author.Needs.{needs}
 use Rattle.geom.proofs.winding.span.Statement.{statement}

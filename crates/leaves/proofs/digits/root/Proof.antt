@@ -4,7 +4,7 @@ use native.Mathlib.Omega.{arith}
 use lib.Dec.{T}
 use lib.Ieee.{Float, nan, binary64, ofBits, toBits, fits, div}
 use lib.Ieee.Bits.{toBits-lt, ofBits-toBits}
-use Rattle.leaves.specs.Root.{root}
+use Rattle.numbers.specs.Root.{root}
 use Rattle.leaves.proofs.Total.{Own, not-nan, by-pattern, nan-own, zero-own, minus-zero-own, infinity-own, no-root}
 use borrow.Author.Needs.{needs}
 use Rattle.leaves.proofs.digits.root.Statement.{statement}

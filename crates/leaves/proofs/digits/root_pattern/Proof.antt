@@ -4,8 +4,8 @@ use native.Mathlib.Nat.{add-comm}
 use native.Mathlib.Omega.{arith}
 use lib.Count.{leadingZeros}
 use lib.Ieee.{binary64}
-use Rattle.leaves.specs.Root.{root, rootUnits}
-use Rattle.leaves.specs.Decode.{read-low, read-mid, root-odd}
+use Rattle.numbers.specs.Root.{root, rootUnits}
+use Rattle.numbers.specs.Decode.{read-low, read-mid, root-odd}
 use Rattle.leaves.proofs.Near.{Moved, moved, moved-same, placed-same}
 use borrow.Author.Needs.{needs}
 use Rattle.leaves.proofs.digits.root_pattern.Statement.{statement}

@@ -5,9 +5,9 @@ use native.Mathlib.Nat.{mul-one}
 use native.Mathlib.Omega.{arith}
 use lib.Dec.{T}
 use lib.Ieee.{odd}
-use Rattle.leaves.specs.Root.{nearRoot}
-use Rattle.leaves.specs.Encode.{encode, encode-no-nan}
-use Rattle.leaves.specs.Decode.{rootUnits-at}
+use Rattle.numbers.specs.Root.{nearRoot}
+use Rattle.numbers.specs.Encode.{encode, encode-no-nan}
+use Rattle.numbers.specs.Decode.{rootUnits-at}
 use borrow.Author.Needs.{needs}
 use Rattle.leaves.proofs.digits.root_units.Statement.{statement}
 use Rattle.leaves.proofs.digits.root_units.Tie as tie

@@ -1,6 +1,6 @@
 use mathlib.Core.Path.{_≡_, sym, ap, subst, _∙_}
 use mathlib.Core.Bool.{Bool, not, _&&_, cond}
-use Rattle.leaves.specs.Order.{negative}
+use Rattle.numbers.specs.Order.{negative}
 use Rattle.leaves.proofs.OrderTests.{before-less, before-apart, before-level}
 use borrow.Author.Needs.{needs}
 use Rattle.leaves.proofs.order.before.Statement.{statement}

@@ -1,7 +1,7 @@
 use mathlib.Core.Path.{_≡_, sym, ap, subst, _∙_}
 use mathlib.Core.Bool.{Bool, cond}
 use lib.Ieee.{Float, isNan}
-use Rattle.leaves.specs.Order.{before, larger}
+use Rattle.numbers.specs.Order.{before, larger}
 use Rattle.leaves.proofs.OrderTests.{tested, is-nan-true, is-nan-false}
 use borrow.Author.Needs.{needs}
 use Rattle.leaves.proofs.order.larger.Statement.{statement}

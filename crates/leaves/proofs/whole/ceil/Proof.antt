@@ -1,7 +1,7 @@
 use mathlib.Core.Path.{_≡_, sym, ap, subst, _∙_}
 use mathlib.Core.Bool.{Bool, not, _&&_, cond}
 use lib.Ieee.{binary64}
-use Rattle.leaves.specs.Whole.{ceil, wholeOf}
+use Rattle.numbers.specs.Whole.{ceil, wholeOf}
 use borrow.Author.Needs.{needs}
 use Rattle.leaves.proofs.whole.ceil.Statement.{statement}
 use Rattle.leaves.proofs.whole.ceil.Tie as tie

@@ -3,8 +3,8 @@ use mathlib.Core.Bool.{Bool, not, _&&_, cond}
 use native.Mathlib.Omega.{arith}
 use lib.Dec.{T}
 use lib.Ieee.{Float, binary64, fits, ofBits, lt}
-use Rattle.leaves.specs.Whole.{wholeOf}
-use Rattle.leaves.specs.WholeLaws.{whole-large, in-range, count-lt, returns-toward, returns-level, returns-away}
+use Rattle.numbers.specs.Whole.{wholeOf}
+use Rattle.numbers.specs.WholeLaws.{whole-large, in-range, count-lt, returns-toward, returns-level, returns-away}
 use borrow.Author.Needs.{needs}
 use Rattle.leaves.proofs.whole.whole.Statement.{statement}
 use Rattle.leaves.proofs.whole.whole.Tie as tie

@@ -45,4 +45,15 @@ returns-9 c =
     rw (ne-eqb _ 114 (r .0 .0 .0 .0 .0 .0 .0 .1), ne-eqb _ 102 (r .0 .0 .0 .0 .0 .0 .1), ne-eqb _ 99 (r .0 .0 .0 .0 .0 .1), ne-eqb _ 109 (r .0 .0 .0 .0 .1), ne-eqb _ 105 (r .0 .0 .0 .1), ne-eqb _ 117 (r .0 .0 .1), ne-eqb _ 106 (r .0 .1), ne-eqb _ 118 (r .1))
 
 pub of-one-spec : {M : Type 1} → statement M
-of-one-spec = tie.close (tie.spec (λ c κs. search needs) (λ c κs. search needs) (λ c κs. search needs) (λ c κs. search needs) (λ c κs. search needs) (λ c κs. search needs) (λ c κs. search needs) (λ c κs. search needs) (λ c κs. search needs) (λ c κs. search needs) (λ c κs. search needs) (λ c κs. search needs) (λ c κs. search needs) (λ c κs. search needs) (λ c κs. search needs) (λ c κs. search needs) (λ c κs. search needs) (λ c κs. search needs) (λ c κs. search needs) (λ c κs. search needs) (λ c κs. search needs) (λ c κs. search needs) returns returns-2 returns-3 returns-4 returns-5 returns-6 returns-7 returns-8 returns-9)
+of-one-spec =
+    tie.close
+    (tie.spec
+    (λ c κs. search needs) (λ c κs. search needs) (λ c κs. search needs)
+    (λ c κs. search needs) (λ c κs. search needs) (λ c κs. search needs)
+    (λ c κs. search needs) (λ c κs. search needs) (λ c κs. search needs)
+    (λ c κs. search needs) (λ c κs. search needs) (λ c κs. search needs)
+    (λ c κs. search needs) (λ c κs. search needs) (λ c κs. search needs)
+    (λ c κs. search needs) (λ c κs. search needs)
+    (λ c κs. search needs) (λ c κs. search needs) (λ c κs. search needs)
+    (λ c κs. search needs) (λ c κs. search needs)
+    returns returns-2 returns-3 returns-4 returns-5 returns-6 returns-7 returns-8 returns-9)

@@ -1,8 +1,8 @@
-use mathlib.Core.Path.{_≡_, refl, sym, ap, _∙_}
-use mathlib.Core.Bool.{true, false, cond}
+use mathlib.Core.Path.{_≡_, sym, ap, _∙_}
+use mathlib.Core.Bool.{true, false}
 use lib.Ieee.{lt, ofBits, round}
 use borrow.Author.Needs.{needs}
-use Rattle.leaves.specs.Num.{literal}
+use Rattle.numbers.specs.Num.{literal}
 use Rattle.geom.specs.Point.{len, norm, tiny}
 use Rattle.geom.proofs.point.P.norm.Statement.{statement}
 use Rattle.geom.proofs.point.P.norm.Tie as tie

@@ -1,0 +1,29 @@
+-- Definitions: what the leaves are (Num, Root, Order, Whole), and what is said of their values (Value).
+-- Then what is proved of them: Ieee754 has the theorems against the standard, and Laws is what callers use.
+pub mod Num
+pub mod Root
+pub mod Order
+pub mod Whole
+pub mod Value
+pub mod Units
+pub mod Fraction
+pub mod FloatOrder
+pub mod OrderLaws
+pub mod Choice
+pub mod Rounded
+pub mod Monotone
+pub mod Commute
+pub mod RootLaws
+pub mod Encode
+pub mod Decode
+pub mod RootNearest
+pub mod Roots
+pub mod WholeLaws
+pub mod Floors
+pub mod FloorLaws
+pub mod Bounds
+pub mod RootBounds
+pub mod Squares
+pub mod CastLaws
+pub mod Ieee754
+pub mod Laws

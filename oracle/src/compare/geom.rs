@@ -1,0 +1,521 @@
+//! The geometry: points, outlines, lines.
+
+use super::{Answered, Function, Operands, Tie, UNTOUCHED, Written, list, no_tie, simplicity};
+use crate::expect::{self, DONE, LAYOUT, LEN, NUMBER, ROOM, SETTING, STEP, TURN};
+use crate::inputs::{
+    lines,
+    numbers::{beside, coordinate, plain, setting, spoil, turn},
+    outlines::{self, Outline, point_near, points},
+};
+use crate::ours::geom as ours;
+use crate::rng::Rng;
+use std::cell::RefCell;
+use zigzag::geom::{self, FillRule, P, polyline_length, resample_keep_corners};
+
+const EMPTY_SUM: &str = "empty sum";
+
+pub fn functions() -> Vec<Function> {
+    vec![
+        of_two("dot", |a, b| a.dot(b), ours::dot),
+        len(),
+        of_two("dist", |a, b| a.dist(b), ours::dist),
+        of_two("cross", geom::cross, ours::cross),
+        of_point("norm", |a| a.norm(), ours::norm),
+        of_point("perp", |a| a.perp(), ours::perp),
+        rotate(),
+        lerp(),
+        inside(),
+        winding(),
+        point_inside(),
+        segment_inside(),
+        length(),
+        resample(),
+    ]
+}
+
+/// What a single-answer call owes: the value, or the refusal's number and
+/// nothing stored.
+fn owed<T>(answer: u64, untouched: T, value: impl FnOnce() -> T) -> Answered<T> {
+    let value = if answer == DONE { value() } else { untouched };
+    Answered { answer, value }
+}
+
+fn given<T>(untouched: T, call: impl FnOnce(&mut T) -> u64) -> Answered<T> {
+    let mut value = untouched;
+    let answer = call(&mut value);
+    Answered { answer, value }
+}
+
+fn mark() -> f64 {
+    f64::from_bits(UNTOUCHED)
+}
+
+fn numbers_first(list: &[f64]) -> u64 {
+    expect::first(&[(NUMBER, expect::numbers(list))])
+}
+
+/// Two points that may have to do with each other.
+fn two_points(rng: &mut Rng, _: u64) -> [f64; 4] {
+    let (ax, ay) = (coordinate(rng), coordinate(rng));
+    let (bx, by) = match rng.below(6) {
+        0 => (ax, ay),
+        1 => (-ax, -ay),
+        2 => (ax, coordinate(rng)),
+        3 => (beside(ax, rng.range(-2, 2)), beside(ay, rng.range(-2, 2))),
+        _ => (coordinate(rng), coordinate(rng)),
+    };
+    let mut list = [ax, ay, bx, by];
+    spoil(rng, &mut list, 12);
+    list
+}
+
+fn one_point(rng: &mut Rng, _: u64) -> [f64; 2] {
+    let mut list = match rng.below(4) {
+        // About 1e-12 long, where `norm` gives up.
+        0 => [beside(1e-12, rng.range(-2, 2)), 0.0],
+        1 => [0.6e-12, beside(0.8e-12, rng.range(-2, 2))],
+        _ => [coordinate(rng), coordinate(rng)],
+    };
+    spoil(rng, &mut list, 12);
+    list
+}
+
+fn plain_points(rng: &mut Rng) -> (P, P) {
+    let point = |rng: &mut Rng| P::new(plain(rng) / 100.0, plain(rng) / 100.0);
+    (point(rng), point(rng))
+}
+
+fn of_two(
+    name: &'static str,
+    rust: impl Fn(P, P) -> f64 + Copy + 'static,
+    ours: impl Fn(P, P, &mut f64) -> u64 + Copy + 'static,
+) -> Function {
+    Function::new(
+        name,
+        two_points,
+        move |&[ax, ay, bx, by]| {
+            let answer = numbers_first(&[ax, ay, bx, by]);
+            owed(answer, mark(), || rust(P::new(ax, ay), P::new(bx, by)))
+        },
+        move |&[ax, ay, bx, by]| given(mark(), |v| ours(P::new(ax, ay), P::new(bx, by), v)),
+        no_tie,
+    )
+    .timed(
+        plain_points,
+        move |&(a, b)| rust(a, b),
+        move |&(a, b)| given(0.0, |v| ours(a, b, v)),
+    )
+}
+
+fn len() -> Function {
+    Function::new(
+        "len",
+        one_point,
+        |&[x, y]| owed(numbers_first(&[x, y]), mark(), || P::new(x, y).len()),
+        |&[x, y]| given(mark(), |v| ours::len(P::new(x, y), v)),
+        no_tie,
+    )
+}
+
+fn of_point(
+    name: &'static str,
+    rust: impl Fn(P) -> P + Copy + 'static,
+    ours: impl Fn(P, &mut [f64; 2]) -> u64 + Copy + 'static,
+) -> Function {
+    Function::new(
+        name,
+        one_point,
+        move |&[x, y]| {
+            owed(numbers_first(&[x, y]), [mark(); 2], || {
+                flat(rust(P::new(x, y)))
+            })
+        },
+        move |&[x, y]| given([mark(); 2], |v| ours(P::new(x, y), v)),
+        no_tie,
+    )
+}
+
+fn flat(p: P) -> [f64; 2] {
+    [p.x, p.y]
+}
+
+fn rotate() -> Function {
+    let make = |rng: &mut Rng, call| {
+        let [x, y] = one_point(rng, call);
+        let (c, s) = turn(rng);
+        [x, y, c, s]
+    };
+    Function::new(
+        "rotate",
+        make,
+        |&[x, y, c, s]| {
+            let checks = [
+                (NUMBER, expect::numbers(&[x, y])),
+                (TURN, expect::turn(c, s)),
+            ];
+            owed(expect::first(&checks), [mark(); 2], || {
+                flat(P::new(x, y).rotate(c, s))
+            })
+        },
+        |&[x, y, c, s]| given([mark(); 2], |v| ours::rotate(P::new(x, y), c, s, v)),
+        no_tie,
+    )
+}
+
+fn lerp() -> Function {
+    let make = |rng: &mut Rng, call| {
+        let [ax, ay, bx, by] = two_points(rng, call);
+        let mut t = [match rng.below(3) {
+            0 => rng.pick(&[0.0, -0.0, 0.25, 0.5, 0.75, 1.0]),
+            1 => rng.below(100) as f64 / (1 + rng.below(100)) as f64,
+            _ => coordinate(rng),
+        }];
+        spoil(rng, &mut t, 12);
+        [ax, ay, bx, by, t[0]]
+    };
+    Function::new(
+        "lerp",
+        make,
+        |&[ax, ay, bx, by, t]| {
+            let answer = numbers_first(&[ax, ay, bx, by, t]);
+            owed(answer, [mark(); 2], || {
+                flat(P::new(ax, ay).lerp(P::new(bx, by), t))
+            })
+        },
+        |&[ax, ay, bx, by, t]| {
+            given([mark(); 2], |v| {
+                ours::lerp(P::new(ax, ay), P::new(bx, by), t, v)
+            })
+        },
+        no_tie,
+    )
+}
+
+fn rule_of(number: u64) -> FillRule {
+    if number == 0 {
+        FillRule::NonZero
+    } else {
+        FillRule::EvenOdd
+    }
+}
+
+/// No outline has more than 1,024 sides, so no winding is larger.
+fn inside() -> Function {
+    let parts = |n: u64| (rule_of(n & 1), (n >> 1) as i64 - 1025);
+    Function::new(
+        "inside",
+        |rng: &mut Rng, _| rng.below(2 * 2051),
+        move |&n| {
+            let (rule, winding) = parts(n);
+            u64::from(rule.inside(winding as i32))
+        },
+        move |&n| {
+            let (rule, winding) = parts(n);
+            ours::inside(rule, winding)
+        },
+        no_tie,
+    )
+}
+
+/// An outline, a rule, a point or a segment, and a step.
+struct Query {
+    outline: Outline,
+    rule: FillRule,
+    a: P,
+    b: P,
+    step: f64,
+}
+
+impl Operands for Query {
+    fn size(&self) -> (usize, u64) {
+        let numbers = [self.a.x, self.a.y, self.b.x, self.b.y, self.step];
+        let all = self.outline.corners.iter().chain(&numbers);
+        (
+            self.outline.corners.len() / 2 + self.outline.ends.len(),
+            all.copied().map(simplicity).sum(),
+        )
+    }
+    fn show(&self) -> String {
+        format!(
+            "corners {} ends {:x?} rule {:?} a {} b {} step {}",
+            list(&self.outline.corners),
+            self.outline.ends,
+            self.rule,
+            list(&flat(self.a)),
+            list(&flat(self.b)),
+            super::hex(self.step)
+        )
+    }
+}
+
+impl Query {
+    /// `a` alone is asked about; `b` and `step` are left at rest.
+    fn point(rng: &mut Rng, _: u64) -> Query {
+        let outline = outlines::any(rng);
+        let mut a = flat(point_near(rng, &outline));
+        spoil(rng, &mut a, 20);
+        Query {
+            rule: rule_of(rng.below(2)),
+            a: P::new(a[0], a[1]),
+            b: P::default(),
+            step: 0.0,
+            outline,
+        }
+    }
+
+    fn segment(rng: &mut Rng, call: u64) -> Query {
+        let mut q = Query::point(rng, call);
+        let mut b = flat(point_near(rng, &q.outline));
+        spoil(rng, &mut b, 20);
+        q.b = P::new(b[0], b[1]);
+        q.step = setting(rng, STEP);
+        // A segment across everything takes the Rust seconds: longer steps there.
+        let work = q.a.dist(q.b) * (q.outline.corners.len() + 1) as f64;
+        if work > 1e5 && STEP.contains(&q.step) {
+            q.step = 1000.0 - q.step.min(500.0);
+        }
+        if work > 1e8 && q.a.dist(q.b).is_finite() {
+            q.b = q.a;
+        }
+        q
+    }
+
+    fn checks(&self, numbers: &[f64]) -> [(u64, bool); 2] {
+        let o = &self.outline;
+        let sound = expect::numbers(&o.corners) && expect::numbers(numbers);
+        [
+            (LAYOUT, expect::outline(&o.corners, &o.ends)),
+            (NUMBER, sound),
+        ]
+    }
+}
+
+/// An ordinary outline in both forms and a point, for timing.
+struct Timed {
+    outline: Outline,
+    rings: Vec<geom::Polyline>,
+    p: P,
+}
+
+fn plain_query(rng: &mut Rng) -> Timed {
+    let outline = outlines::sound(rng);
+    Timed {
+        rings: outline.rings(),
+        p: point_near(rng, &outline),
+        outline,
+    }
+}
+
+fn winding() -> Function {
+    let untouched = UNTOUCHED as i64;
+    Function::new(
+        "winding",
+        Query::point,
+        move |q| {
+            owed(expect::first(&q.checks(&flat(q.a))), untouched, || {
+                i64::from(geom::winding(&q.outline.rings(), q.a))
+            })
+        },
+        move |q| given(untouched, |v| ours::winding(&q.outline, q.a, v)),
+        no_tie,
+    )
+    .timed(
+        plain_query,
+        |t| geom::winding(&t.rings, t.p),
+        |t| given(0, |v| ours::winding(&t.outline, t.p, v)),
+    )
+}
+
+fn point_inside() -> Function {
+    Function::new(
+        "point_inside",
+        Query::point,
+        |q| {
+            owed(expect::first(&q.checks(&flat(q.a))), UNTOUCHED, || {
+                u64::from(geom::point_inside(&q.outline.rings(), q.rule, q.a))
+            })
+        },
+        |q| {
+            given(UNTOUCHED, |v| {
+                ours::point_inside(&q.outline, q.rule, q.a, v)
+            })
+        },
+        no_tie,
+    )
+    .timed(
+        plain_query,
+        |t| geom::point_inside(&t.rings, FillRule::NonZero, t.p),
+        |t| {
+            given(0, |v| {
+                ours::point_inside(&t.outline, FillRule::NonZero, t.p, v)
+            })
+        },
+    )
+}
+
+fn segment_inside() -> Function {
+    Function::new(
+        "segment_inside",
+        Query::segment,
+        |q| {
+            let [layout, number] = q.checks(&[q.a.x, q.a.y, q.b.x, q.b.y]);
+            let setting = (SETTING, STEP.contains(&q.step));
+            owed(expect::first(&[layout, number, setting]), UNTOUCHED, || {
+                let rings = q.outline.rings();
+                u64::from(geom::segment_inside(&rings, q.rule, q.a, q.b, q.step))
+            })
+        },
+        |q| {
+            given(UNTOUCHED, |v| {
+                ours::segment_inside(&q.outline, q.rule, q.a, q.b, q.step, v)
+            })
+        },
+        no_tie,
+    )
+}
+
+/// A line to be cut, and the room lent for its stitches, in floats.
+pub struct Cut {
+    pub line: Vec<f64>,
+    pub len: f64,
+    pub room: usize,
+}
+
+impl Operands for Cut {
+    fn size(&self) -> (usize, u64) {
+        let all = self.line.iter().chain([&self.len]);
+        (self.line.len() / 2, all.copied().map(simplicity).sum())
+    }
+    fn show(&self) -> String {
+        let (line, len) = (list(&self.line), super::hex(self.len));
+        format!("line {line} len {len} room {}", self.room)
+    }
+}
+
+impl Cut {
+    pub fn checks(&self) -> [(u64, bool); 3] {
+        [
+            (LAYOUT, expect::line(&self.line)),
+            (NUMBER, expect::numbers(&self.line)),
+            (SETTING, LEN.contains(&self.len)),
+        ]
+    }
+}
+
+fn length() -> Function {
+    // Document 01 has +0 where the Rust library's empty sum gives -0.
+    let tie = |c: &Cut| -> Tie<Answered<f64>> {
+        let short = c.line.is_empty() || (c.line.len() == 2 && expect::numbers(&c.line));
+        short.then(|| (EMPTY_SUM, owed(DONE, mark(), || 0.0)))
+    };
+    let make = |rng: &mut Rng, _| Cut {
+        line: lines::any(rng, 5.0),
+        len: 0.0,
+        room: 0,
+    };
+    Function::new(
+        "polyline_length",
+        make,
+        |c| {
+            let answer = expect::first(&c.checks()[..2]);
+            owed(answer, mark(), || polyline_length(&points(&c.line)))
+        },
+        |c| given(mark(), |v| ours::polyline_length(&c.line, v)),
+        tie,
+    )
+}
+
+/// What a call owes that writes points: no count and nothing written after a
+/// refusal; the points in front and the rest unchanged after DONE.
+/// `made` is asked only where the room is enough for `count` points.
+pub fn written(
+    refusal: u64,
+    count: impl FnOnce() -> u64,
+    room: usize,
+    made: impl FnOnce() -> Vec<P>,
+) -> Written {
+    let mut out = vec![mark(); room];
+    if refusal != DONE {
+        return Written {
+            answer: refusal,
+            count: 0,
+            out,
+        };
+    }
+    let count = count();
+    if 2 * count > room as u64 {
+        return Written {
+            answer: ROOM,
+            count: 0,
+            out,
+        };
+    }
+    let made = made();
+    assert_eq!(made.len() as u64, count, "the oracle's own count is wrong");
+    for (at, p) in made.iter().enumerate() {
+        out[2 * at] = p.x;
+        out[2 * at + 1] = p.y;
+    }
+    Written {
+        answer: DONE,
+        count,
+        out,
+    }
+}
+
+/// What a call gave that writes points.
+pub fn gave(room: usize, call: impl FnOnce(&mut [f64], &mut u64) -> u64) -> Written {
+    let mut out = vec![mark(); room];
+    let mut count = UNTOUCHED;
+    let answer = call(&mut out, &mut count);
+    Written { answer, count, out }
+}
+
+/// A line in both forms, for timing.
+pub type Line = (Vec<f64>, Vec<P>);
+
+pub fn plain_line(rng: &mut Rng) -> Line {
+    let line = lines::ordinary(rng);
+    let pts = points(&line);
+    (line, pts)
+}
+
+/// Ours with an output that is lent again and again, as a caller would; the
+/// Rust makes a new list for each call.
+pub fn lent(call: impl Fn(&Line, &mut [f64], &mut u64) -> u64) -> impl Fn(&Line) -> u64 {
+    let out = RefCell::new(vec![0.0; 20_000]);
+    move |line| call(line, &mut out.borrow_mut(), &mut 0)
+}
+
+fn resample() -> Function {
+    let make = |rng: &mut Rng, _| {
+        let len = setting(rng, LEN);
+        let line = lines::any(rng, len);
+        let room = lines::room(rng, expect::resample_points(&points(&line), len));
+        Cut { line, len, room }
+    };
+    Function::new(
+        "resample_keep_corners",
+        make,
+        |c| {
+            let pts = points(&c.line);
+            written(
+                expect::first(&c.checks()),
+                || expect::resample_points(&pts, c.len),
+                c.room,
+                || resample_keep_corners(&pts, c.len),
+            )
+        },
+        |c| {
+            gave(c.room, |out, count| {
+                ours::resample_keep_corners(&c.line, c.len, out, count)
+            })
+        },
+        no_tie,
+    )
+    .timed(
+        plain_line,
+        |(_, pts)| resample_keep_corners(pts, 25.0),
+        lent(|(line, _), out, count| ours::resample_keep_corners(line, 25.0, out, count)),
+    )
+}

@@ -1,0 +1,433 @@
+//! The common harness: one loop over generated calls, one way to collect and
+//! report differences, one way to time. A group is a file with a list of
+//! functions; see README.md for how to add one.
+
+#[cfg(feature = "geom")]
+pub mod geom;
+pub mod leaves;
+#[cfg(feature = "stroke")]
+pub mod stroke;
+
+use crate::rng::Rng;
+use std::collections::{BTreeMap, BinaryHeap};
+use std::hint::black_box;
+use std::time::Instant;
+
+/// How many differences of a function are kept (the smallest), and printed.
+const KEPT: usize = 2000;
+const PRINTED: usize = 20;
+
+/// What a call is given.
+pub trait Operands {
+    /// What to sort differences by: fewer corners first, then simpler numbers.
+    fn size(&self) -> (usize, u64);
+    /// All its bits, in hex.
+    fn show(&self) -> String;
+}
+
+/// What a call leaves behind: answer, values, counts and every lent slice.
+pub trait Outcome {
+    /// Equal in bits; any NaN equals any NaN.
+    fn same(&self, other: &Self) -> bool;
+    fn show(&self) -> String;
+    /// Document 01's number, where the call answers one.
+    fn answer(&self) -> Option<u64> {
+        None
+    }
+}
+
+pub struct Job {
+    pub seed: u64,
+    pub count: u64,
+}
+
+/// A function that stands on both sides.
+pub struct Function {
+    pub name: &'static str,
+    compare: Box<dyn Fn(&Job) -> Report>,
+    bench: Option<Box<dyn Fn(&mut Rng) -> Timing>>,
+}
+
+/// A named tie: the calls that the Rust leaves open, and what document 01 says there.
+pub type Tie<T> = Option<(&'static str, T)>;
+
+pub fn no_tie<I, T>(_: &I) -> Tie<T> {
+    None
+}
+
+/// Stands where a value or a slice is lent: it must still stand there where
+/// the call owes no change.
+pub const UNTOUCHED: u64 = 0x1234_5678_9abc_def0;
+
+impl Function {
+    /// `make` gives the operands of a call by its number, `tie` tells the named ties.
+    pub fn new<I: Operands, T: Outcome>(
+        name: &'static str,
+        make: impl Fn(&mut Rng, u64) -> I + 'static,
+        rust: impl Fn(&I) -> T + 'static,
+        ours: impl Fn(&I) -> T + 'static,
+        tie: impl Fn(&I) -> Tie<T> + 'static,
+    ) -> Function {
+        let compare = move |job: &Job| {
+            let mut report = Report::new(name, job.seed);
+            let mut rng = Rng::new(job.seed, name);
+            for call in 0..job.count {
+                let operands = make(&mut rng, call);
+                let wanted = match tie(&operands) {
+                    Some((why, wanted)) => {
+                        *report.ties.entry(why).or_default() += 1;
+                        wanted
+                    }
+                    None => {
+                        report.compared += 1;
+                        rust(&operands)
+                    }
+                };
+                report.add(&operands, &wanted, &ours(&operands));
+            }
+            report
+        };
+        Function {
+            name,
+            compare: Box::new(compare),
+            bench: None,
+        }
+    }
+
+    /// What to time: inputs from `make`, and the two sides bare of any harness.
+    pub fn timed<I, A, B>(
+        mut self,
+        make: impl Fn(&mut Rng) -> I + 'static,
+        rust: impl Fn(&I) -> A + 'static,
+        ours: impl Fn(&I) -> B + 'static,
+    ) -> Function {
+        self.bench = Some(Box::new(move |rng: &mut Rng| {
+            let inputs: Vec<I> = (0..1000).map(|_| make(rng)).collect();
+            time(&inputs, &rust, &ours)
+        }));
+        self
+    }
+
+    /// Prints the function's line, and its differences if there are any.
+    pub fn compare(&self, job: &Job) -> bool {
+        let report = (self.compare)(job);
+        let equal = report.differing == 0;
+        report.print();
+        equal
+    }
+
+    pub fn bench(&self, seed: u64) {
+        if let Some(bench) = &self.bench {
+            let t = bench(&mut Rng::new(seed, self.name));
+            let (name, ours, rust) = (self.name, t.ours, t.rust);
+            println!(
+                "{name:<22} ours {ours:10.2} ns   Rust {rust:10.2} ns   ratio {:7.3}",
+                ours / rust
+            );
+        }
+    }
+}
+
+/// One call that differed; the order is that of its size.
+#[derive(PartialEq, Eq, PartialOrd, Ord)]
+struct Difference {
+    size: (usize, u64),
+    text: String,
+}
+
+struct Report {
+    name: &'static str,
+    seed: u64,
+    compared: u64,
+    ties: BTreeMap<&'static str, u64>,
+    answers: BTreeMap<u64, u64>,
+    differing: u64,
+    smallest: BinaryHeap<Difference>,
+}
+
+impl Report {
+    fn new(name: &'static str, seed: u64) -> Report {
+        Report {
+            name,
+            seed,
+            compared: 0,
+            ties: BTreeMap::new(),
+            answers: BTreeMap::new(),
+            differing: 0,
+            smallest: BinaryHeap::new(),
+        }
+    }
+
+    fn add<I: Operands, T: Outcome>(&mut self, operands: &I, wanted: &T, given: &T) {
+        if let Some(answer) = wanted.answer() {
+            *self.answers.entry(answer).or_default() += 1;
+        }
+        if wanted.same(given) {
+            return;
+        }
+        self.differing += 1;
+        let size = operands.size();
+        let full = self.smallest.len() == KEPT;
+        if full && self.smallest.peek().is_some_and(|d| d.size <= size) {
+            return;
+        }
+        if full {
+            self.smallest.pop();
+        }
+        self.smallest.push(Difference {
+            size,
+            text: format!(
+                "  {}({})\n    wanted {}\n    given  {}",
+                self.name,
+                operands.show(),
+                wanted.show(),
+                given.show()
+            ),
+        });
+    }
+
+    fn print(self) {
+        let tied: u64 = self.ties.values().sum();
+        let mut line = format!(
+            "{:<22} seed {}  compared {}  ties {}  differences {}",
+            self.name, self.seed, self.compared, tied, self.differing
+        );
+        for (why, n) in &self.ties {
+            line += &format!("  [{why}: {n}]");
+        }
+        if !self.answers.is_empty() {
+            let list: Vec<String> = self
+                .answers
+                .iter()
+                .map(|(a, n)| format!("{a}:{n}"))
+                .collect();
+            line += &format!("  answers {}", list.join(" "));
+        }
+        println!("{line}");
+        let mut kept = self.smallest.into_sorted_vec();
+        kept.dedup();
+        for difference in kept.iter().take(PRINTED) {
+            println!("{}", difference.text);
+        }
+        if kept.len() > PRINTED {
+            println!("  .. and others: the {PRINTED} smallest are shown");
+        }
+    }
+}
+
+struct Timing {
+    rust: f64,
+    ours: f64,
+}
+
+/// Nanoseconds per call of each side: the median of rounds taken in turns, so
+/// that both meet the same disturbances.
+fn time<I, A, B>(inputs: &[I], rust: impl Fn(&I) -> A, ours: impl Fn(&I) -> B) -> Timing {
+    const ROUNDS: usize = 15;
+    let times = repeats(inputs, &rust).max(repeats(inputs, &ours));
+    let mut rounds = (Vec::new(), Vec::new());
+    for _ in 0..ROUNDS {
+        rounds.0.push(round(inputs, &rust, times));
+        rounds.1.push(round(inputs, &ours, times));
+    }
+    rounds.0.sort_by(f64::total_cmp);
+    rounds.1.sort_by(f64::total_cmp);
+    Timing {
+        rust: rounds.0[ROUNDS / 2],
+        ours: rounds.1[ROUNDS / 2],
+    }
+}
+
+/// How often to go over the inputs so that a round takes some milliseconds.
+fn repeats<I, T>(inputs: &[I], f: &impl Fn(&I) -> T) -> usize {
+    let once = round(inputs, f, 1) * inputs.len() as f64;
+    (3e6 / once).clamp(1.0, 1000.0) as usize
+}
+
+fn round<I, T>(inputs: &[I], f: &impl Fn(&I) -> T, times: usize) -> f64 {
+    let start = Instant::now();
+    for _ in 0..times {
+        for input in inputs {
+            black_box(f(black_box(input)));
+        }
+    }
+    start.elapsed().as_nanos() as f64 / (times * inputs.len()) as f64
+}
+
+/// How far a number is from a simple one: its digits, its exponent's size, its sign.
+pub fn simplicity(x: f64) -> u64 {
+    let bits = x.to_bits();
+    if x == 0.0 {
+        return bits >> 63;
+    }
+    let fraction = bits & ((1 << 52) - 1);
+    let exponent = (bits >> 52) & 0x7ff;
+    let digits = u64::from(52 - fraction.trailing_zeros().min(52));
+    digits + exponent.abs_diff(1023) + (bits >> 63)
+}
+
+pub fn hex(x: f64) -> String {
+    format!("{:016x}", x.to_bits())
+}
+
+impl Operands for f64 {
+    fn size(&self) -> (usize, u64) {
+        (0, simplicity(*self))
+    }
+    fn show(&self) -> String {
+        hex(*self)
+    }
+}
+
+impl Operands for (f64, f64) {
+    fn size(&self) -> (usize, u64) {
+        (0, simplicity(self.0) + simplicity(self.1))
+    }
+    fn show(&self) -> String {
+        format!("{}, {}", hex(self.0), hex(self.1))
+    }
+}
+
+impl Operands for u64 {
+    fn size(&self) -> (usize, u64) {
+        (0, u64::from(64 - self.leading_zeros() + self.count_ones()))
+    }
+    fn show(&self) -> String {
+        format!("{self:016x}")
+    }
+}
+
+impl Outcome for f64 {
+    fn same(&self, other: &f64) -> bool {
+        self.to_bits() == other.to_bits() || (self.is_nan() && other.is_nan())
+    }
+    fn show(&self) -> String {
+        hex(*self)
+    }
+}
+
+impl Outcome for u64 {
+    fn same(&self, other: &u64) -> bool {
+        self == other
+    }
+    fn show(&self) -> String {
+        format!("{self:016x}")
+    }
+}
+
+impl Outcome for i64 {
+    fn same(&self, other: &i64) -> bool {
+        self == other
+    }
+    fn show(&self) -> String {
+        format!("{self:016x}")
+    }
+}
+
+impl Outcome for bool {
+    fn same(&self, other: &bool) -> bool {
+        self == other
+    }
+    fn show(&self) -> String {
+        self.to_string()
+    }
+}
+
+/// A call that answers document 01's number and stores one value on 0.
+pub struct Answered<T> {
+    pub answer: u64,
+    pub value: T,
+}
+
+impl<T: Outcome> Outcome for Answered<T> {
+    fn same(&self, other: &Self) -> bool {
+        self.answer == other.answer && self.value.same(&other.value)
+    }
+    fn show(&self) -> String {
+        format!("answer {} value {}", self.answer, self.value.show())
+    }
+    fn answer(&self) -> Option<u64> {
+        Some(self.answer)
+    }
+}
+
+#[cfg(feature = "geom")]
+impl<const N: usize> Operands for [f64; N] {
+    fn size(&self) -> (usize, u64) {
+        (0, self.iter().copied().map(simplicity).sum())
+    }
+    fn show(&self) -> String {
+        list(self)
+    }
+}
+
+#[cfg(feature = "geom")]
+impl Outcome for [f64; 2] {
+    fn same(&self, other: &Self) -> bool {
+        self[0].same(&other[0]) && self[1].same(&other[1])
+    }
+    fn show(&self) -> String {
+        list(self)
+    }
+}
+
+#[cfg(feature = "geom")]
+pub fn list(numbers: &[f64]) -> String {
+    let all: Vec<String> = numbers.iter().copied().map(hex).collect();
+    format!("[{}]", all.join(" "))
+}
+
+/// A call that answers document 01's number and a count, and writes points to a
+/// lent slice: the whole slice counts, before and after the points.
+#[cfg(feature = "geom")]
+pub struct Written {
+    pub answer: u64,
+    pub count: u64,
+    pub out: Vec<f64>,
+}
+
+#[cfg(feature = "geom")]
+impl Outcome for Written {
+    fn same(&self, other: &Self) -> bool {
+        self.answer == other.answer
+            && self.count == other.count
+            && self.out.len() == other.out.len()
+            && self.out.iter().zip(&other.out).all(|(a, b)| a.same(b))
+    }
+    fn show(&self) -> String {
+        let (answer, count) = (self.answer, self.count);
+        format!("answer {answer} count {count} out {}", list(&self.out))
+    }
+    fn answer(&self) -> Option<u64> {
+        Some(self.answer)
+    }
+}
+
+/// A group's name, its functions, and its replay list if it has one.
+pub struct Group {
+    pub name: &'static str,
+    pub functions: Vec<Function>,
+    pub replay: Option<fn() -> String>,
+}
+
+pub fn groups() -> Vec<Group> {
+    vec![
+        Group {
+            name: "leaves",
+            functions: leaves::functions(),
+            replay: Some(leaves::replay),
+        },
+        #[cfg(feature = "geom")]
+        Group {
+            name: "geom",
+            functions: geom::functions(),
+            replay: None,
+        },
+        #[cfg(feature = "stroke")]
+        Group {
+            name: "stroke",
+            functions: stroke::functions(),
+            replay: None,
+        },
+    ]
+}

@@ -1,0 +1,81 @@
+//! Document 01's numbers and limits, in Rust: what a call owes before its
+//! answer. Written from the table alone, so that it can disagree with ours.
+
+pub const DONE: u64 = 0;
+pub const NUMBER: u64 = 2;
+
+#[cfg(feature = "geom")]
+pub use limits::*;
+
+#[cfg(feature = "geom")]
+mod limits {
+    use super::*;
+    use std::ops::RangeInclusive;
+    use zigzag::geom::P;
+
+    pub const LAYOUT: u64 = 1;
+    pub const SETTING: u64 = 3;
+    pub const TURN: u64 = 4;
+    pub const ROOM: u64 = 7;
+
+    pub const RINGS: usize = 255;
+    pub const CORNERS: usize = 1024;
+    pub const SIZE_LIMIT: f64 = 100_000.0;
+    pub const STEP: RangeInclusive<f64> = 0.5..=1000.0;
+    pub const LEN: RangeInclusive<f64> = 1.0..=1000.0;
+    #[cfg(feature = "stroke")]
+    pub const PASSES: RangeInclusive<u64> = 0..=64;
+
+    /// The number of the first check that doesn't hold, in the table's order.
+    pub fn first(checks: &[(u64, bool)]) -> u64 {
+        checks
+            .iter()
+            .find(|(_, holds)| !holds)
+            .map_or(DONE, |(no, _)| *no)
+    }
+
+    pub fn outline(corners: &[f64], ends: &[u64]) -> bool {
+        corners.len() % 2 == 0
+            && corners.len() / 2 <= CORNERS
+            && ends.len() <= RINGS
+            && ends.is_sorted()
+            && ends.last().copied().unwrap_or(0) == corners.len() as u64 / 2
+    }
+
+    pub fn line(corners: &[f64]) -> bool {
+        corners.len() % 2 == 0 && corners.len() / 2 <= CORNERS
+    }
+
+    pub fn numbers(list: &[f64]) -> bool {
+        list.iter().all(|x| x.is_finite() && x.abs() <= SIZE_LIMIT)
+    }
+
+    pub fn turn(c: f64, s: f64) -> bool {
+        let square = c * c + s * s;
+        c.is_finite() && s.is_finite() && (0.999999..=1.000001).contains(&square)
+    }
+
+    /// How many points `resample_keep_corners` gives, without making them: a
+    /// line of the greatest size has more than memory holds. Saturating, because
+    /// it is also asked of settings that are then refused.
+    pub fn resample_points(pts: &[P], len: f64) -> u64 {
+        let pieces: u64 = pts
+            .windows(2)
+            .map(|w| w[0].dist(w[1]))
+            .filter(|d| *d >= 1e-9)
+            .map(|d| (d / len).ceil().max(1.0) as u64)
+            .fold(0, u64::saturating_add);
+        pieces.saturating_add(u64::from(!pts.is_empty()))
+    }
+
+    #[cfg(feature = "stroke")]
+    pub fn running_points(pts: &[P], closed: bool, len: f64, passes: u64) -> u64 {
+        let mut base = pts.to_vec();
+        if closed && base.len() > 2 {
+            base.push(base[0]);
+        }
+        let one = resample_points(&base, len);
+        let more = (passes.max(1) - 1).saturating_mul(one.saturating_sub(1));
+        one.saturating_add(more)
+    }
+}

@@ -1,0 +1,330 @@
+//! The proved library: its exported C functions, and a safe wrapper for each.
+//! Nothing checks these declarations against the archive, so this is the one
+//! place to look at when a function's arguments change.
+
+mod raw {
+    #[link(name = "exports", kind = "static")]
+    unsafe extern "C" {
+        // The total face: every f64, NaN and infinities among them.
+        pub safe fn beahcerot_root(x: f64) -> f64;
+        pub safe fn beahcerot_floor(x: f64) -> f64;
+        pub safe fn beahcerot_ceil(x: f64) -> f64;
+        pub safe fn beahcerot_smaller(a: f64, b: f64) -> f64;
+        pub safe fn beahcerot_larger(a: f64, b: f64) -> f64;
+        pub safe fn beahcerot_magnitude(x: f64) -> f64;
+        // A bool, read as its byte: a byte other than 0 and 1 must be seen, not assumed away.
+        pub safe fn beahcerot_before(a: f64, b: f64) -> u8;
+        pub safe fn beahcerot_to_i64(x: f64) -> i64;
+        pub safe fn beahcerot_to_u64(x: f64) -> u64;
+        pub safe fn beahcerot_of_i64(n: i64) -> f64;
+        pub safe fn beahcerot_of_u64(n: u64) -> f64;
+
+        // The public face: document 01's number, and the value stored only on 0.
+        pub fn beahcerot_leaf_root(x: f64, value: *mut f64) -> u64;
+        pub fn beahcerot_leaf_floor(x: f64, value: *mut f64) -> u64;
+        pub fn beahcerot_leaf_ceil(x: f64, value: *mut f64) -> u64;
+        pub fn beahcerot_leaf_magnitude(x: f64, value: *mut f64) -> u64;
+        pub fn beahcerot_leaf_smaller(a: f64, b: f64, value: *mut f64) -> u64;
+        pub fn beahcerot_leaf_larger(a: f64, b: f64, value: *mut f64) -> u64;
+        pub fn beahcerot_leaf_order(a: f64, b: f64, place: *mut u64) -> u64;
+    }
+}
+
+pub fn root(x: f64) -> f64 {
+    raw::beahcerot_root(x)
+}
+
+pub fn floor(x: f64) -> f64 {
+    raw::beahcerot_floor(x)
+}
+
+pub fn ceil(x: f64) -> f64 {
+    raw::beahcerot_ceil(x)
+}
+
+pub fn smaller(a: f64, b: f64) -> f64 {
+    raw::beahcerot_smaller(a, b)
+}
+
+pub fn larger(a: f64, b: f64) -> f64 {
+    raw::beahcerot_larger(a, b)
+}
+
+pub fn magnitude(x: f64) -> f64 {
+    raw::beahcerot_magnitude(x)
+}
+
+pub fn to_i64(x: f64) -> i64 {
+    raw::beahcerot_to_i64(x)
+}
+
+pub fn to_u64(x: f64) -> u64 {
+    raw::beahcerot_to_u64(x)
+}
+
+pub fn of_i64(n: i64) -> f64 {
+    raw::beahcerot_of_i64(n)
+}
+
+pub fn of_u64(n: u64) -> f64 {
+    raw::beahcerot_of_u64(n)
+}
+
+pub fn before(a: f64, b: f64) -> bool {
+    match raw::beahcerot_before(a, b) {
+        0 => false,
+        1 => true,
+        byte => panic!("beahcerot_before answered the byte {byte}, which is no bool"),
+    }
+}
+
+// A `&mut` is a pointer to one whole value for as long as the call lasts, which
+// is all that these functions ask for.
+
+pub fn leaf_root(x: f64, value: &mut f64) -> u64 {
+    unsafe { raw::beahcerot_leaf_root(x, value) }
+}
+
+pub fn leaf_floor(x: f64, value: &mut f64) -> u64 {
+    unsafe { raw::beahcerot_leaf_floor(x, value) }
+}
+
+pub fn leaf_ceil(x: f64, value: &mut f64) -> u64 {
+    unsafe { raw::beahcerot_leaf_ceil(x, value) }
+}
+
+pub fn leaf_magnitude(x: f64, value: &mut f64) -> u64 {
+    unsafe { raw::beahcerot_leaf_magnitude(x, value) }
+}
+
+pub fn leaf_smaller(a: f64, b: f64, value: &mut f64) -> u64 {
+    unsafe { raw::beahcerot_leaf_smaller(a, b, value) }
+}
+
+pub fn leaf_larger(a: f64, b: f64, value: &mut f64) -> u64 {
+    unsafe { raw::beahcerot_leaf_larger(a, b, value) }
+}
+
+pub fn leaf_order(a: f64, b: f64, place: &mut u64) -> u64 {
+    unsafe { raw::beahcerot_leaf_order(a, b, place) }
+}
+
+/// The geometry. These lines are a proposal until the archive exports them.
+/// A slice passes as a pointer and a length; a point as x and y.
+#[cfg(feature = "geom")]
+pub mod geom {
+    use crate::inputs::outlines::Outline;
+    use zigzag::geom::{FillRule, P};
+
+    unsafe extern "C" {
+        // One number.
+        fn beahcerot_dot(ax: f64, ay: f64, bx: f64, by: f64, value: *mut f64) -> u64;
+        fn beahcerot_len(x: f64, y: f64, value: *mut f64) -> u64;
+        fn beahcerot_dist(ax: f64, ay: f64, bx: f64, by: f64, value: *mut f64) -> u64;
+        fn beahcerot_cross(ax: f64, ay: f64, bx: f64, by: f64, value: *mut f64) -> u64;
+        // One point.
+        fn beahcerot_norm(x: f64, y: f64, px: *mut f64, py: *mut f64) -> u64;
+        fn beahcerot_perp(x: f64, y: f64, px: *mut f64, py: *mut f64) -> u64;
+        fn beahcerot_rotate(x: f64, y: f64, c: f64, s: f64, px: *mut f64, py: *mut f64) -> u64;
+        fn beahcerot_lerp(
+            ax: f64,
+            ay: f64,
+            bx: f64,
+            by: f64,
+            t: f64,
+            px: *mut f64,
+            py: *mut f64,
+        ) -> u64;
+        // Outlines. A rule is 0 for NonZero, 1 for EvenOdd; inside is 0 or 1.
+        fn beahcerot_inside(rule: u64, winding: i64) -> u64;
+        fn beahcerot_winding(
+            corners: *const f64,
+            corners_len: usize,
+            ends: *const u64,
+            ends_len: usize,
+            x: f64,
+            y: f64,
+            value: *mut i64,
+        ) -> u64;
+        fn beahcerot_point_inside(
+            corners: *const f64,
+            corners_len: usize,
+            ends: *const u64,
+            ends_len: usize,
+            rule: u64,
+            x: f64,
+            y: f64,
+            value: *mut u64,
+        ) -> u64;
+        fn beahcerot_segment_inside(
+            corners: *const f64,
+            corners_len: usize,
+            ends: *const u64,
+            ends_len: usize,
+            rule: u64,
+            ax: f64,
+            ay: f64,
+            bx: f64,
+            by: f64,
+            step: f64,
+            value: *mut u64,
+        ) -> u64;
+        // Lines.
+        fn beahcerot_polyline_length(line: *const f64, line_len: usize, value: *mut f64) -> u64;
+        fn beahcerot_resample_keep_corners(
+            line: *const f64,
+            line_len: usize,
+            len: f64,
+            out: *mut f64,
+            out_len: usize,
+            count: *mut u64,
+        ) -> u64;
+    }
+
+    // Slices and `&mut`s are whole and unshared for as long as the call lasts.
+
+    pub fn dot(a: P, b: P, value: &mut f64) -> u64 {
+        unsafe { beahcerot_dot(a.x, a.y, b.x, b.y, value) }
+    }
+
+    pub fn len(a: P, value: &mut f64) -> u64 {
+        unsafe { beahcerot_len(a.x, a.y, value) }
+    }
+
+    pub fn dist(a: P, b: P, value: &mut f64) -> u64 {
+        unsafe { beahcerot_dist(a.x, a.y, b.x, b.y, value) }
+    }
+
+    pub fn cross(a: P, b: P, value: &mut f64) -> u64 {
+        unsafe { beahcerot_cross(a.x, a.y, b.x, b.y, value) }
+    }
+
+    pub fn norm(a: P, p: &mut [f64; 2]) -> u64 {
+        let [x, y] = p;
+        unsafe { beahcerot_norm(a.x, a.y, x, y) }
+    }
+
+    pub fn perp(a: P, p: &mut [f64; 2]) -> u64 {
+        let [x, y] = p;
+        unsafe { beahcerot_perp(a.x, a.y, x, y) }
+    }
+
+    pub fn rotate(a: P, c: f64, s: f64, p: &mut [f64; 2]) -> u64 {
+        let [x, y] = p;
+        unsafe { beahcerot_rotate(a.x, a.y, c, s, x, y) }
+    }
+
+    pub fn lerp(a: P, b: P, t: f64, p: &mut [f64; 2]) -> u64 {
+        let [x, y] = p;
+        unsafe { beahcerot_lerp(a.x, a.y, b.x, b.y, t, x, y) }
+    }
+
+    pub fn inside(rule: FillRule, winding: i64) -> u64 {
+        unsafe { beahcerot_inside(rule as u64, winding) }
+    }
+
+    pub fn winding(o: &Outline, p: P, value: &mut i64) -> u64 {
+        let (c, e) = (&o.corners, &o.ends);
+        unsafe { beahcerot_winding(c.as_ptr(), c.len(), e.as_ptr(), e.len(), p.x, p.y, value) }
+    }
+
+    pub fn point_inside(o: &Outline, rule: FillRule, p: P, value: &mut u64) -> u64 {
+        let (c, e, rule) = (&o.corners, &o.ends, rule as u64);
+        unsafe {
+            beahcerot_point_inside(
+                c.as_ptr(),
+                c.len(),
+                e.as_ptr(),
+                e.len(),
+                rule,
+                p.x,
+                p.y,
+                value,
+            )
+        }
+    }
+
+    pub fn segment_inside(
+        o: &Outline,
+        rule: FillRule,
+        a: P,
+        b: P,
+        step: f64,
+        value: &mut u64,
+    ) -> u64 {
+        let (c, e, rule) = (&o.corners, &o.ends, rule as u64);
+        unsafe {
+            beahcerot_segment_inside(
+                c.as_ptr(),
+                c.len(),
+                e.as_ptr(),
+                e.len(),
+                rule,
+                a.x,
+                a.y,
+                b.x,
+                b.y,
+                step,
+                value,
+            )
+        }
+    }
+
+    pub fn polyline_length(line: &[f64], value: &mut f64) -> u64 {
+        unsafe { beahcerot_polyline_length(line.as_ptr(), line.len(), value) }
+    }
+
+    pub fn resample_keep_corners(line: &[f64], len: f64, out: &mut [f64], count: &mut u64) -> u64 {
+        let room = out.len();
+        unsafe {
+            beahcerot_resample_keep_corners(
+                line.as_ptr(),
+                line.len(),
+                len,
+                out.as_mut_ptr(),
+                room,
+                count,
+            )
+        }
+    }
+}
+
+/// Running stitch. These lines are a proposal until the archive exports them.
+#[cfg(feature = "stroke")]
+pub mod stroke {
+    unsafe extern "C" {
+        fn beahcerot_running(
+            line: *const f64,
+            line_len: usize,
+            closed: bool,
+            len: f64,
+            passes: u64,
+            out: *mut f64,
+            out_len: usize,
+            count: *mut u64,
+        ) -> u64;
+    }
+
+    pub fn running(
+        line: &[f64],
+        closed: bool,
+        len: f64,
+        passes: u64,
+        out: &mut [f64],
+        count: &mut u64,
+    ) -> u64 {
+        let room = out.len();
+        unsafe {
+            beahcerot_running(
+                line.as_ptr(),
+                line.len(),
+                closed,
+                len,
+                passes,
+                out.as_mut_ptr(),
+                room,
+                count,
+            )
+        }
+    }
+}

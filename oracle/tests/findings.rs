@@ -1,0 +1,144 @@
+//! docs/FINDINGS.md, run on the completed original: each finding with its
+//! smallest input. It needs no archive.
+
+use zigzag::fill::{FillParams, Piece, row_list, row_list_by_place, tatami, ties};
+use zigzag::geom::{FillRule, P, Polyline};
+
+fn line(points: &[(f64, f64)]) -> Polyline {
+    points.iter().map(|&(x, y)| P::new(x, y)).collect()
+}
+
+fn block(x: f64, y: f64, width: f64, height: f64) -> Polyline {
+    line(&[
+        (x, y),
+        (x + width, y),
+        (x + width, y + height),
+        (x, y + height),
+    ])
+}
+
+fn settings() -> FillParams {
+    FillParams {
+        c: 1.0,
+        s: 0.0,
+        spacing: 4.0,
+        len: 10.0,
+        inset: 0.0,
+        pull: 0.0,
+        stagger: 1,
+        bottom_up: false,
+    }
+}
+
+fn spans(pieces: &[Piece]) -> Vec<(i64, f64, f64)> {
+    pieces.iter().map(|p| (p.k, p.xa, p.xb)).collect()
+}
+
+#[test]
+fn f1_a_row_inside_a_dropped_edge_goes_bare() {
+    let shape = [line(&[
+        (0.0, -10.0),
+        (10.0, -10.0),
+        (10.0, 0.0),
+        (2.0, 0.0),
+        (2.0, 10.0),
+        (0.0, 10.0),
+    ])];
+    let rows = |c: f64| {
+        let turned = FillParams {
+            c,
+            s: 1.0,
+            ..settings()
+        };
+        row_list(&shape, FillRule::NonZero, &turned)
+            .iter()
+            .map(|p| p.k)
+            .collect::<Vec<_>>()
+    };
+    assert_eq!(rows(0.0), [-3, -2, -1]);
+    let quarter = f64::from_bits(0x3c91a62633145c07);
+    assert_eq!(std::f64::consts::FRAC_PI_2.cos(), quarter);
+    assert_eq!(rows(quarter), [-3, -2]);
+}
+
+#[test]
+fn f2_touching_fields_go_by_the_order_of_drawing() {
+    let inset = FillParams {
+        inset: 2.0,
+        ..settings()
+    };
+    let left = block(0.0, 0.0, 10.0, 10.0);
+    let right = block(10.0, 0.0, 10.0, 10.0);
+    let list = |rings: &[Polyline]| {
+        assert_eq!(ties(rings, &inset), 2);
+        spans(&row_list_by_place(rings, FillRule::NonZero, &inset))
+    };
+    assert_eq!(
+        list(&[left.clone(), right.clone()]),
+        [
+            (0, 2.0, 8.0),
+            (0, 12.0, 18.0),
+            (1, 2.0, 8.0),
+            (1, 12.0, 18.0)
+        ]
+    );
+    assert_eq!(list(&[right, left]), [(0, 2.0, 18.0), (1, 2.0, 18.0)]);
+}
+
+#[test]
+fn f3_a_narrow_piece_is_dropped() {
+    let count = |width: f64| {
+        row_list(
+            &[block(0.0, 0.0, width, 10.0)],
+            FillRule::NonZero,
+            &settings(),
+        )
+        .len()
+    };
+    assert_eq!((count(2.9), count(3.0)), (0, 2));
+}
+
+#[test]
+fn f4_pull_past_inset_by_one_breaks_every_link() {
+    let sections = |pull: f64| {
+        let pulled = FillParams { pull, ..settings() };
+        tatami(&[block(0.0, 0.0, 40.0, 40.0)], FillRule::NonZero, &pulled).len()
+    };
+    assert_eq!((sections(0.99), sections(1.0)), (1, 10));
+}
+
+#[test]
+fn f5_a_step_an_ulp_over_len_is_cut_in_two() {
+    let short = FillParams {
+        len: 1.2,
+        ..settings()
+    };
+    let section = &tatami(&[block(0.0, 0.0, 5.5, 4.0)], FillRule::NonZero, &short)[0];
+    let xs: Vec<f64> = section.iter().map(|p| p.x).collect();
+    let step = 1.2 * 4.0 - 1.2 * 3.0;
+    assert_eq!(f64::to_bits(step), f64::to_bits(1.2) + 1);
+    assert_eq!(xs.len(), 7);
+    assert!(1.2 * 3.0 < xs[4] && xs[4] < 1.2 * 4.0);
+}
+
+#[test]
+fn f6_a_crossing_at_minus_zero() {
+    // The side goes from -0 to the smallest number below zero over 8 units, so its slope underflows to -0.
+    let tiny = f64::from_bits(1);
+    let shape = [line(&[
+        (-0.0, -6.0),
+        (-tiny, 2.0),
+        (-20.0, 2.0),
+        (-20.0, -6.0),
+    ])];
+    let list = row_list(&shape, FillRule::NonZero, &settings());
+    let zeros: Vec<u64> = list.iter().map(|p| p.xb.to_bits()).collect();
+    assert_eq!(zeros, [1 << 63; 2]);
+}
+
+#[test]
+fn f7_hypot_is_not_the_root_of_the_sum() {
+    let v = P::new(0.1, 0.1);
+    assert_eq!(v.x.hypot(v.y).to_bits(), 0x3fc21a1851ff630a);
+    assert_eq!(v.len().to_bits(), 0x3fc21a1851ff630b);
+}
