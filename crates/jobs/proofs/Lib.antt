@@ -1,3 +1,2 @@
 -- Laws that the proofs share.
-pub mod Bytes
 pub mod Words

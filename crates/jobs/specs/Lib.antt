@@ -2,4 +2,6 @@
 pub mod Job
 pub mod Text
 pub mod Framed
+pub mod JobLaws
+pub mod Theorems
 pub mod Ks

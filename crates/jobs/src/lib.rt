@@ -1,9 +1,9 @@
 // Everything of the program `fill` but the fill: a job read from its bytes, and the lines that are printed.
-pub mod frame;
+mod frame;
 pub mod job;
 pub mod line;
-pub mod number;
-pub mod rings;
+mod number;
+mod rings;
 
 pub use job::Job;
 pub use job::Parsed;

@@ -4,7 +4,7 @@ use Prim.Native.Nat.{_+_, _-_, _*_, _≤_, _<_}
 use native.Mathlib.Omega.{arith}
 use lib.ListN.{length, drop, length-drop}
 use Rattle.jobs.specs.Job.{head, count, counted, behind}
-use Rattle.jobs.proofs.Bytes.{counted-short, counted-many, counted-next, counted-over, counted-end, behind-at}
+use Rattle.jobs.specs.JobLaws.{counted-short, counted-many, counted-next, counted-over, counted-end, behind-at}
 use borrow.Author.Needs.{needs}
 use Rattle.jobs.proofs.frame.count_corners.Statement.{statement}
 use Rattle.jobs.proofs.frame.count_corners.Tie as tie

@@ -2,7 +2,7 @@ use mathlib.Core.Path.{_≡_, refl, sym, ap, _∙_}
 use native.Mathlib.Omega.{arith}
 use borrow.Author.Tests.{not-true, not-false}
 use Rattle.jobs.specs.Job.{corners, ends}
-use Rattle.jobs.proofs.Bytes.{counted-few, corners-length, head-long, parsed-head, parsed-badly, parsed-corners, parsed-ends, parsed-done}
+use Rattle.jobs.specs.JobLaws.{counted-few, corners-length, head-long, parsed-head, parsed-badly, parsed-corners, parsed-ends, parsed-done}
 use borrow.Author.Needs.{needs}
 use Rattle.jobs.proofs.job.parse.Statement.{statement}
 use Rattle.jobs.proofs.job.parse.Tie as tie

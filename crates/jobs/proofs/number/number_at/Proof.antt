@@ -4,7 +4,7 @@ use Prim.Native.Nat.{ℕ, _+_, _-_, _*_, _^_, _≤_, _<_}
 use native.Mathlib.Omega.{arith}
 use lib.ListN.{length, take, drop, getD}
 use Rattle.jobs.specs.Job.{value, number}
-use Rattle.jobs.proofs.Bytes.{value-turn, value-end, value-more, value-below}
+use Rattle.jobs.specs.JobLaws.{value-turn, value-end, value-more, value-below}
 use borrow.Author.Needs.{needs}
 use Rattle.jobs.proofs.number.number_at.Statement.{statement}
 use Rattle.jobs.proofs.number.number_at.Tie as tie

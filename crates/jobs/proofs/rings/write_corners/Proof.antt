@@ -8,7 +8,7 @@ use lib.Ieee.{Float}
 use Rattle.seqs.specs.Front.{Front, front-start, front-at, front-block, front-room-block, front-end, rest-length}
 use Rattle.jobs.specs.declared.frame.Framing.the-variants.{Corners}
 use Rattle.jobs.specs.Job.{head, count, counted, behind, floats, cornersFrom}
-use Rattle.jobs.proofs.Bytes.{Ring, ring, behind-at, floats-length, corners-at, corners-none}
+use Rattle.jobs.specs.JobLaws.{Ring, ring, behind-at, floats-length, corners-at, corners-none}
 use borrow.Author.Needs.{needs}
 use Rattle.jobs.proofs.rings.write_corners.Statement.{statement}
 use Rattle.jobs.proofs.rings.write_corners.Tie as tie

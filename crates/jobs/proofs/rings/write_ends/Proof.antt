@@ -7,7 +7,7 @@ use lib.ListN.{length, drop, length-drop}
 use Rattle.seqs.specs.Front.{Front, front-start, front-at, front-push, front-end}
 use Rattle.jobs.specs.declared.frame.Framing.the-variants.{Corners}
 use Rattle.jobs.specs.Job.{head, count, counted, behind, endsFrom}
-use Rattle.jobs.proofs.Bytes.{Ring, ring, behind-at, ends-turn, ends-none, ends-length}
+use Rattle.jobs.specs.JobLaws.{Ring, ring, behind-at, ends-turn, ends-none, ends-length}
 use borrow.Author.Needs.{needs}
 use Rattle.jobs.proofs.rings.write_ends.Statement.{statement}
 use Rattle.jobs.proofs.rings.write_ends.Tie as tie

@@ -5,7 +5,7 @@ use native.Mathlib.Omega.{arith}
 use lib.ListN.{length, drop}
 use Rattle.seqs.specs.Front.{Front, front-start, front-at, front-room, front-push, front-end}
 use Rattle.jobs.specs.Job.{floats}
-use Rattle.jobs.proofs.Bytes.{floats-turn, floats-end, floats-length}
+use Rattle.jobs.specs.JobLaws.{floats-turn, floats-end, floats-length}
 use borrow.Author.Needs.{needs}
 use Rattle.jobs.proofs.rings.write_floats.Statement.{statement}
 use Rattle.jobs.proofs.rings.write_floats.Tie as tie
