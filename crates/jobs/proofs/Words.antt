@@ -1,17 +1,15 @@
 -- Digits from the back, and words one behind the other.
 use mathlib.Core.Path.{_≡_, refl, sym, ap, _∙_}
-use mathlib.Core.Bool.{cond}
 use mathlib.Core.List.{List, [], _∷_, _++_, append-assoc, append-nil}
 use Prim.Native.Nat.{ℕ, zero, suc, _+_, _-_, _/_, _%_, _≤_, _<_}
 use native.Mathlib.Nat.{lt-irrefl}
-use native.Mathlib.Numerals.{add-one}
 use native.Mathlib.Omega.{arith}
-use lib.ListN.{length, take, drop, set, getD, length-append, length-set, take-append-drop}
-use lib.Seq.{drop-cons, drop-set-lt, getD-set-same, take-set-le}
+use lib.ListN.{length, take, drop, set, length-append, length-set, take-append-drop}
+use lib.Seq.{drop-set-lt, getD-set-same, take-set-le}
 use borrow.Author.Tests.{lt-ltb, le-ltb}
 use lib.Ieee.{Float, binary64, toBits}
 use Rattle.seqs.specs.Slices.{Put}
-use Rattle.seqs.specs.Front.{Front, front-from, front-push, front-whole, front-end, next}
+use Rattle.seqs.specs.Front.{front-from, front-push, front-whole, front-end, next}
 use Rattle.seqs.specs.Wrote.{head-length}
 use Rattle.seqs.specs.Reads.{take-on}
 use Rattle.jobs.specs.Text.{glyph, digits, places, decimal, hex, headLine, pointLine}

@@ -1,6 +1,6 @@
 -- Numbers in bytes, a turn at a time; the rings, one by one.
 use mathlib.Core.Path.{_≡_, refl, sym, ap, subst, _∙_}
-use mathlib.Core.Bool.{Bool, true, false, _&&_, cond}
+use mathlib.Core.Bool.{true, false}
 use mathlib.Core.List.{List, [], _∷_, _++_}
 use mathlib.Core.Logic.{_⊎_, inl, inr}
 use Prim.Native.Nat.{ℕ, zero, suc, _+_, _-_, _*_, _^_, _≤_, _<_}
@@ -8,14 +8,12 @@ use native.Mathlib.Nat.{lt-irrefl, lt-of-lt-of-le}
 use native.Mathlib.Omega.{arith}
 use lib.Dec.{leb, eqb}
 use lib.Pow.{pow-mono, pow-add}
-use lib.ListN.{length, take, drop, getD, length-append, length-drop}
+use lib.ListN.{length, take, drop, getD, length-append}
 use lib.Seq.{drop-drop}
-use lib.Ieee.{Float}
 use borrow.Author.Tests.{le-leb, lt-leb, eq-eqb, ne-eqb, leb-true, leb-false, eqb-true, eqb-false}
 use Rattle.seqs.specs.Front.{next}
 use Rattle.seqs.specs.Reads.{fuel-more}
-use Rattle.seqs.specs.Tests.{either, clash, and-both}
-use Rattle.jobs.specs.declared.frame.Framing.{Framing}
+use Rattle.seqs.specs.Tests.{either, and-both}
 use Rattle.jobs.specs.declared.frame.Framing.the-variants.{Corners, Badly}
 use Rattle.jobs.specs.declared.job.Parsed.the-variants.{Done, Refused}
 use Rattle.jobs.specs.Job.{value, number, float, floats, byte, goodHead, count, behind, counted, endsFrom, cornersFrom, jobOf, decoded, parsed}

@@ -4,7 +4,7 @@ use mathlib.Core.Bool.{false}
 use Prim.Native.Nat.{ℕ, _+_}
 use mathlib.Core.List.{List, [], _∷_, _++_}
 use lib.ListN.{length, replicate}
-use lib.Ieee.{Float, round, ofBits, ofInt}
+use lib.Ieee.{Float, round, ofBits}
 use Rattle.numbers.specs.Num.{literal}
 use Rattle.geom.specs.declared.rule.FillRule.the-variants.{NonZero}
 use Rattle.jobs.specs.declared.job.Parsed.the-variants.{Done}

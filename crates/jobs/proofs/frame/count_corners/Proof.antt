@@ -1,9 +1,9 @@
 -- The invariant: what the rings to come make of the corners so far is what all come to.
-use mathlib.Core.Path.{_≡_, refl, sym, ap, _∙_}
-use Prim.Native.Nat.{_+_, _-_, _*_, _≤_, _<_}
+use mathlib.Core.Path.{_≡_, refl, sym, _∙_}
+use Prim.Native.Nat.{_-_, _≤_}
 use native.Mathlib.Omega.{arith}
 use lib.ListN.{length, drop, length-drop}
-use Rattle.jobs.specs.Job.{head, count, counted, behind}
+use Rattle.jobs.specs.Job.{head, counted}
 use Rattle.jobs.specs.JobLaws.{counted-short, counted-many, counted-next, counted-over, counted-end, behind-at}
 use borrow.Author.Needs.{needs}
 use Rattle.jobs.proofs.frame.count_corners.Statement.{statement}

@@ -1,6 +1,5 @@
 use borrow.Author.Tests.{eq-eqb, ne-eqb}
 use Rattle.jobs.specs.Job.{ruleOf}
-use borrow.Author.Needs.{needs}
 use Rattle.jobs.proofs.job.rule_of.Statement.{statement}
 use Rattle.jobs.proofs.job.rule_of.Tie as tie
 

@@ -1,5 +1,5 @@
 -- The invariant: the digits that are left, and those counted, are all.
-use mathlib.Core.Path.{_≡_, sym, _∙_}
+use mathlib.Core.Path.{_≡_, sym}
 use Prim.Native.Nat.{_+_, _-_, _≤_}
 use native.Mathlib.Omega.{arith}
 use Rattle.jobs.specs.Text.{places}

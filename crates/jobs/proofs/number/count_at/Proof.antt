@@ -1,4 +1,3 @@
-use mathlib.Core.Path.{_≡_, _∙_, refl}
 use Rattle.jobs.specs.Job.{number, count}
 use borrow.Author.Needs.{needs}
 use Rattle.jobs.proofs.number.count_at.Statement.{statement}

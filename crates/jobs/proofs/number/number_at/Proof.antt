@@ -1,8 +1,8 @@
 -- The invariant: the bytes to come make of the value so far the number that is wanted.
-use mathlib.Core.Path.{_≡_, refl, sym, ap, _∙_}
-use Prim.Native.Nat.{ℕ, _+_, _-_, _*_, _^_, _≤_, _<_}
+use mathlib.Core.Path.{_≡_, sym, _∙_}
+use Prim.Native.Nat.{_+_, _-_, _*_, _^_, _≤_, _<_}
 use native.Mathlib.Omega.{arith}
-use lib.ListN.{length, take, drop, getD}
+use lib.ListN.{take, drop, getD}
 use Rattle.jobs.specs.Job.{value, number}
 use Rattle.jobs.specs.JobLaws.{value-turn, value-end, value-more, value-below}
 use borrow.Author.Needs.{needs}

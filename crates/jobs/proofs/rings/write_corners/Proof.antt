@@ -1,13 +1,11 @@
 -- The invariant: the rings to come are well framed, and their corners are what is left to write.
-use mathlib.Core.Path.{_≡_, refl, sym, ap, _∙_}
-use Prim.Native.Nat.{ℕ, _+_, _-_, _*_, _≤_, _<_}
-use mathlib.Core.List.{List, _++_}
+use mathlib.Core.Path.{_≡_, sym, ap, _∙_}
+use Prim.Native.Nat.{ℕ, _+_, _-_, _*_, _≤_}
 use native.Mathlib.Omega.{arith}
-use lib.ListN.{length, take, drop, length-drop}
-use lib.Ieee.{Float}
+use lib.ListN.{length, drop, length-drop}
 use Rattle.seqs.specs.Front.{Front, front-start, front-at, front-block, front-room-block, front-end, rest-length}
 use Rattle.jobs.specs.declared.frame.Framing.the-variants.{Corners}
-use Rattle.jobs.specs.Job.{head, count, counted, behind, floats, cornersFrom}
+use Rattle.jobs.specs.Job.{head, counted, floats, cornersFrom}
 use Rattle.jobs.specs.JobLaws.{Ring, ring, behind-at, floats-length, corners-at, corners-none}
 use borrow.Author.Needs.{needs}
 use Rattle.jobs.proofs.rings.write_corners.Statement.{statement}
@@ -19,41 +17,45 @@ Inv-loop s rings corners₀ at₀ n₀ left₀ corners at n left = ((m : ℕ) ×
 abbrev μ-loop : tie.MeasureT-loop
 μ-loop s rings corners₀ at₀ n₀ left₀ corners at n left = left
 
+-- the ring at hand
+here : (c : tie.In-loop Inv-loop μ-loop) → Ring (c .before .loop .left) (c .before .loop .n) (drop (c .before .loop .at) (c .before .before .before .before .args .s .now)) (c .before .loop .inv .0 .0)
+here c = ring _ _ _ _ (omega arith) (c .before .loop .inv .0 .1)
+
 loop-holds : tie.Need-loop-holds Inv-loop μ-loop
 loop-holds c = ((c .before .before .pre .0 .corners, c .before .before .pre .0 .is), front-start _ _, c .before .before .pre .0 .long, omega arith)
 
 count-at-requires : tie.Need-count-at-requires Inv-loop μ-loop
 count-at-requires c κs =
     let l = c .before .loop in
-    let r = ring _ (l .n) (drop (l .at) (c .before .before .before .before .args .s .now)) _ (omega arith) (l .inv .0 .1) in
+    let r = here c in
     omega (arith, r .whole, length-drop (l .at) (c .before .before .before .before .args .s .now))
 
 mul-write-floats : tie.Need-mul-write-floats Inv-loop μ-loop
-mul-write-floats c = omega (arith, c .count-at .ensures .1, ring _ (c .before .before .loop .n) (drop (c .before .before .loop .at) (c .before .before .before .before .before .args .s .now)) _ (omega arith) (c .before .before .loop .inv .0 .1) .few, c .count-at .ensures .0)
+mul-write-floats c = omega (arith, c .count-at .ensures .1, here (c .before) .few, c .count-at .ensures .0)
 
 write-floats-requires : tie.Need-write-floats-requires Inv-loop μ-loop
 write-floats-requires c κs =
     let l = c .before .before .before .loop in
     let s = c .before .before .before .before .before .before .args .s .now in
     let e = c .before .count-at .ensures .0 in
-    let r = ring _ (l .n) (drop (l .at) s) _ (omega arith) (l .inv .0 .1) in
+    let r = here (c .before .before) in
     let f = front-at (corners-at s (l .at) (l .left) _ (omega arith) e) (l .inv .1) in
     let h = front-room-block (floats (2 * c .before .count-at .result) (drop (l .at + 2) s)) _ f (c .before .before .before .before .before .before .pre .1) in
     (omega (arith, r .whole, length-drop (l .at) s, e), omega (arith, h, floats-length (2 * c .before .count-at .result) (drop (l .at + 2) s), rest-length (l .corners) (2 * l .n) (omega (arith, l .inv .1 .at, l .inv .1 .len))))
 
 add-n : tie.Need-add-n Inv-loop μ-loop
-add-n c = omega (arith, c .before .before .before .before .count-at .ensures .1, ring _ (c .before .before .before .before .before .before .loop .n) (drop (c .before .before .before .before .before .before .loop .at) (c .before .before .before .before .before .before .before .before .before .args .s .now)) _ (omega arith) (c .before .before .before .before .before .before .loop .inv .0 .1) .few, c .before .before .before .before .count-at .ensures .0)
+add-n c = omega (arith, c .before .before .before .before .count-at .ensures .1, here (c .before .before .before .before .before) .few, c .before .before .before .before .count-at .ensures .0)
 
 mul-at : tie.Need-mul-at Inv-loop μ-loop
-mul-at c = omega (arith, c .before .before .before .before .count-at .ensures .1, ring _ (c .before .before .before .before .before .before .loop .n) (drop (c .before .before .before .before .before .before .loop .at) (c .before .before .before .before .before .before .before .before .before .args .s .now)) _ (omega arith) (c .before .before .before .before .before .before .loop .inv .0 .1) .few, c .before .before .before .before .count-at .ensures .0)
+mul-at c = omega (arith, c .before .before .before .before .count-at .ensures .1, here (c .before .before .before .before .before) .few, c .before .before .before .before .count-at .ensures .0)
 
 add-at : tie.Need-add-at Inv-loop μ-loop
-add-at c = omega (arith, c .before .before .before .before .count-at .ensures .1, ring _ (c .before .before .before .before .before .before .loop .n) (drop (c .before .before .before .before .before .before .loop .at) (c .before .before .before .before .before .before .before .before .before .args .s .now)) _ (omega arith) (c .before .before .before .before .before .before .loop .inv .0 .1) .few, c .before .before .before .before .count-at .ensures .0)
+add-at c = omega (arith, c .before .before .before .before .count-at .ensures .1, here (c .before .before .before .before .before) .few, c .before .before .before .before .count-at .ensures .0)
 
 add-at-2 : tie.Need-add-at-2 Inv-loop μ-loop
 add-at-2 c =
     let l = c .before .before .before .before .before .before .loop in
-    let r = ring _ (l .n) (drop (l .at) (c .before .before .before .before .before .before .before .before .before .args .s .now)) _ (omega arith) (l .inv .0 .1) in
+    let r = here (c .before .before .before .before .before) in
     omega (arith, r .whole, length-drop (l .at) (c .before .before .before .before .before .before .before .before .before .args .s .now), c .before .before .before .before .count-at .ensures .0)
 
 loop-again : tie.Need-loop-again Inv-loop μ-loop
@@ -61,7 +63,7 @@ loop-again c =
     let l = c .before .before .before .before .before .before .loop in
     let s = c .before .before .before .before .before .before .before .before .before .args .s .now in
     let e = c .before .before .before .before .count-at .ensures .0 in
-    let r = ring _ (l .n) (drop (l .at) s) _ (omega arith) (l .inv .0 .1) in
+    let r = here (c .before .before .before .before .before) in
     let m = floats (2 * c .before .before .before .before .count-at .result) (drop (l .at + 2) s) in
     let f = front-at (corners-at s (l .at) (l .left) _ (omega arith) e) (l .inv .1) in
     let h = front-room-block m _ f (c .before .before .before .before .before .before .before .before .before .pre .1) in

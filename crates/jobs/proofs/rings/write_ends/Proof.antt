@@ -1,13 +1,12 @@
 -- The invariant: the rings to come are well framed, and their ends are what is left to write.
-use mathlib.Core.Path.{_≡_, refl, sym, ap, _∙_}
-use Prim.Native.Nat.{ℕ, _+_, _-_, _*_, _≤_, _<_}
-use mathlib.Core.List.{List, _∷_}
+use mathlib.Core.Path.{_≡_, sym, ap, _∙_}
+use Prim.Native.Nat.{ℕ, _+_, _-_, _≤_}
 use native.Mathlib.Omega.{arith}
 use lib.ListN.{length, drop, length-drop}
 use Rattle.seqs.specs.Front.{Front, front-start, front-at, front-push, front-end}
 use Rattle.jobs.specs.declared.frame.Framing.the-variants.{Corners}
-use Rattle.jobs.specs.Job.{head, count, counted, behind, endsFrom}
-use Rattle.jobs.specs.JobLaws.{Ring, ring, behind-at, ends-turn, ends-none, ends-length}
+use Rattle.jobs.specs.Job.{head, counted, endsFrom}
+use Rattle.jobs.specs.JobLaws.{Ring, ring, behind-at, ends-turn, ends-none}
 use borrow.Author.Needs.{needs}
 use Rattle.jobs.proofs.rings.write_ends.Statement.{statement}
 use Rattle.jobs.proofs.rings.write_ends.Tie as tie
@@ -18,28 +17,32 @@ Inv-loop s rings ends₀ at₀ n₀ i₀ ends at n i = ((m : ℕ) × (counted (r
 abbrev μ-loop : tie.MeasureT-loop
 μ-loop s rings ends₀ at₀ n₀ i₀ ends at n i = rings - i
 
+-- the ring at hand
+here : (c : tie.In-loop Inv-loop μ-loop) → Ring (c .before .before .before .before .args .rings - c .before .loop .i) (c .before .loop .n) (drop (c .before .loop .at) (c .before .before .before .before .args .s .now)) (c .before .loop .inv .0 .0)
+here c = ring _ _ _ _ (omega arith) (c .before .loop .inv .0 .1)
+
 loop-holds : tie.Need-loop-holds Inv-loop μ-loop
 loop-holds c = let e : c .before .before .args .rings - 0 ≡ c .before .before .args .rings = omega arith in ((c .before .before .pre .0 .corners, rw e (c .before .before .pre .0 .is)), rw e (front-start _ _), c .before .before .pre .0 .long, omega arith)
 
 count-at-requires : tie.Need-count-at-requires Inv-loop μ-loop
 count-at-requires c κs =
     let l = c .before .loop in
-    let r = ring _ (l .n) (drop (l .at) (c .before .before .before .before .args .s .now)) _ (omega arith) (l .inv .0 .1) in
+    let r = here c in
     omega (arith, r .whole, length-drop (l .at) (c .before .before .before .before .args .s .now))
 
 add-n : tie.Need-add-n Inv-loop μ-loop
-add-n c = omega (arith, c .count-at .ensures .1, ring _ (c .before .before .loop .n) (drop (c .before .before .loop .at) (c .before .before .before .before .before .args .s .now)) _ (omega arith) (c .before .before .loop .inv .0 .1) .few, c .count-at .ensures .0)
+add-n c = omega (arith, c .count-at .ensures .1, here (c .before) .few, c .count-at .ensures .0)
 
 mul-at : tie.Need-mul-at Inv-loop μ-loop
-mul-at c = omega (arith, c .count-at .ensures .1, ring _ (c .before .before .loop .n) (drop (c .before .before .loop .at) (c .before .before .before .before .before .args .s .now)) _ (omega arith) (c .before .before .loop .inv .0 .1) .few, c .count-at .ensures .0)
+mul-at c = omega (arith, c .count-at .ensures .1, here (c .before) .few, c .count-at .ensures .0)
 
 add-at : tie.Need-add-at Inv-loop μ-loop
-add-at c = omega (arith, c .count-at .ensures .1, ring _ (c .before .before .loop .n) (drop (c .before .before .loop .at) (c .before .before .before .before .before .args .s .now)) _ (omega arith) (c .before .before .loop .inv .0 .1) .few, c .count-at .ensures .0)
+add-at c = omega (arith, c .count-at .ensures .1, here (c .before) .few, c .count-at .ensures .0)
 
 add-at-2 : tie.Need-add-at-2 Inv-loop μ-loop
 add-at-2 c =
     let l = c .before .before .loop in
-    let r = ring _ (l .n) (drop (l .at) (c .before .before .before .before .before .args .s .now)) _ (omega arith) (l .inv .0 .1) in
+    let r = here (c .before) in
     omega (arith, r .whole, length-drop (l .at) (c .before .before .before .before .before .args .s .now), c .count-at .ensures .0)
 
 mul-ends : tie.Need-mul-ends Inv-loop μ-loop
@@ -55,7 +58,7 @@ loop-again c =
     let e = c .count-at .ensures .0 in
     let k : c .before .before .before .before .before .args .rings - l .i - 1 ≡ c .before .before .before .before .before .args .rings - (l .i + 1) = omega arith in
     let b = behind-at s (l .at) _ e in
-    let r = ring _ (l .n) (drop (l .at) s) _ (omega arith) (l .inv .0 .1) in
+    let r = here (c .before) in
     let f = front-at (ends-turn (c .before .before .before .before .before .args .rings - l .i) (l .n) (drop (l .at) s) (omega arith)) (l .inv .1) in
     ((l .inv .0 .0, rw (sym b, e, sym k) (r .rest)), rw (sym b, e, sym k) (front-push f (omega (arith, l .inv .1 .len))), omega (arith, r .whole, length-drop (l .at) s, e), omega arith)
 

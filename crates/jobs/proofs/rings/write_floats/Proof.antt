@@ -1,11 +1,11 @@
 -- The invariant: the floats to come are what is left to write.
-use mathlib.Core.Path.{_≡_, refl, sym, ap, _∙_}
-use Prim.Native.Nat.{ℕ, _+_, _-_, _*_, _≤_, _<_}
+use mathlib.Core.Path.{_≡_}
+use Prim.Native.Nat.{_+_, _-_, _*_, _≤_}
 use native.Mathlib.Omega.{arith}
 use lib.ListN.{length, drop}
-use Rattle.seqs.specs.Front.{Front, front-start, front-at, front-room, front-push, front-end}
+use Rattle.seqs.specs.Front.{Front, front-start, front-at, front-push, front-end}
 use Rattle.jobs.specs.Job.{floats}
-use Rattle.jobs.specs.JobLaws.{floats-turn, floats-end, floats-length}
+use Rattle.jobs.specs.JobLaws.{floats-turn, floats-end}
 use borrow.Author.Needs.{needs}
 use Rattle.jobs.proofs.rings.write_floats.Statement.{statement}
 use Rattle.jobs.proofs.rings.write_floats.Tie as tie
