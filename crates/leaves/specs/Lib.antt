@@ -12,7 +12,9 @@ pub mod OrderLaws
 pub mod Choice
 pub mod WholeLaws
 pub mod Rounded
+pub mod Monotone
 pub mod RootLaws
 pub mod Encode
 pub mod Decode
 pub mod RootNearest
+pub mod Roots
