@@ -1,0 +1,3 @@
+-- What the contracts of `edges` cite (Table), and what is proved of it.
+pub mod Table
+pub mod TableLaws
