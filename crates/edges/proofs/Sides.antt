@@ -16,7 +16,13 @@ use Rattle.geom.specs.OutlineLaws.{cornerAt, points-next, points-end, cut-next,
 use Rattle.rules.specs.declared.Settings.{Settings}
 use Rattle.rules.specs.declared.Edge.{Edge}
 use Rattle.rules.specs.Fill.{keptSide, sidesTo, sides, turned, edges}
-use Rattle.edges.specs.Table.{corner, following, ringEdges}
+use Rattle.edges.specs.declared.side.KeptSide.{KeptSide}
+use Rattle.edges.specs.declared.side.KeptSide.the-variants.{Kept, Dropped}
+use Rattle.edges.specs.Table.{found, corner, following, ringEdges}
+
+pub found-few : (s : KeptSide) → length (found s) ≤ 1
+found-few (Kept e) = omega arith
+found-few Dropped = omega arith
 
 pub following-in : (i n : ℕ) → i + 1 < n → following i n + 1 < n
 following-in i n h = go (ltb (i + 3) n) refl

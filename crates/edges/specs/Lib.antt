@@ -1,3 +1,4 @@
 -- What the contracts of `edges` cite (Table), and what is proved of it.
 pub mod Table
 pub mod TableLaws
+pub mod EdgeCount
