@@ -1,5 +1,8 @@
 // Points, outlines and winding: geom.rs. The cores take every f64, NaN and infinities too.
 pub mod point;
+pub mod rule;
+pub mod winding;
 
 pub use point::P;
 pub use point::cross;
+pub use rule::FillRule;

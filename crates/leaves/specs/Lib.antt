@@ -13,6 +13,11 @@ pub mod Choice
 pub mod WholeLaws
 pub mod Rounded
 pub mod Monotone
+pub mod Floors
+pub mod FloorLaws
+pub mod Bounds
+pub mod RootBounds
+pub mod CastLaws
 pub mod RootLaws
 pub mod Encode
 pub mod Decode

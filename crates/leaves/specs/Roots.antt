@@ -86,10 +86,10 @@ module _ (m : ℕ) (e : ℤ) (f : T (fits binary64 (fin false (suc m) e))) where
   above-fine : T (finite (root (fin false (suc m) e)))
   above-fine = rw root-is (odd-fine 54 false (z .q) (z .k) 1074)
 
-  above-negative : negative (root (fin false (suc m) e)) ≡ false
+  pub above-negative : negative (root (fin false (suc m) e)) ≡ false
   above-negative = ap negative root-is ∙ odd-negative 54 false (z .q) (z .k) 1074
 
-  above-is : IsRoot (fin false (suc m) e) (root (fin false (suc m) e))
+  pub above-is : IsRoot (fin false (suc m) e) (root (fin false (suc m) e))
   above-is = record {
     fit = above-fits;
     fine = above-fine;
@@ -98,7 +98,7 @@ module _ (m : ℕ) (e : ℤ) (f : T (fits binary64 (fin false (suc m) e))) where
   }
 
 -- ---- the operand, by cases
-nothing-below : (m : ℕ) (e : ℤ) → T (le zero64 (fin true (suc m) e)) → ⊥
+pub nothing-below : (m : ℕ) (e : ℤ) → T (le zero64 (fin true (suc m) e)) → ⊥
 unfolding finite
 nothing-below m e h = omega (arith, le→cross zero64 (fin true (suc m) e) tt tt h, mul-pos (zero-lt-suc m) (up-pos e))
 

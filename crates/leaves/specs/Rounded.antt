@@ -82,7 +82,7 @@ unique-value (fin t m e) (fin u n d) s a c C f g h k =
     ∙ unique s m n e d a c C (subst (λ (b : Bool). T (fits binary64 (fin b m e))) (h .0) f) (subst (λ (b : Bool). T (fits binary64 (fin b n d))) (k .0) g) (h .1) (k .1)
     ∙ sym (ap (λ (b : Bool). fin b n d) (k .0))
 
-own-round : (s : Bool) (m : ℕ) (e : ℤ) → T (fits binary64 (fin s m e)) → fin s m e ≡ round binary64 s (m * up e) (down e)
+pub own-round : (s : Bool) (m : ℕ) (e : ℤ) → T (fits binary64 (fin s m e)) → fin s m e ≡ round binary64 s (m * up e) (down e)
 own-round s m e f =
     let g = grid (fin s m e) f in
     unique-value (fin s m e) (round binary64 s (m * up e) (down e)) s (m * up e) (down e) (down-pos e) f (round-fits binary64 s (m * up e) (down e)) (refl, refl)

@@ -12,7 +12,8 @@ use Rattle.leaves.specs.Order.{finite}
 use Rattle.seqs.specs.Lists.{each}
 use Rattle.geom.specs.declared.point.P.{P}
 use Rattle.geom.specs.Outline.{rings}
-use Rattle.rules.specs.Standin.{FillRule, layout, numbers, flat}
+use Rattle.geom.specs.declared.rule.FillRule.{FillRule}
+use Rattle.rules.specs.Standin.{layout, numbers, flat}
 use Rattle.rules.specs.declared.Settings.{Settings}
 use Rattle.rules.specs.declared.Entry.{Entry}
 use Rattle.rules.specs.Fill.{edges, rowNumbers, rowList}

@@ -15,7 +15,8 @@ use Rattle.leaves.specs.Whole.{floor, ceil}
 use Rattle.seqs.specs.Lists.{upto, keepIf, sift, each, fold, sortBy, byKey}
 use Rattle.geom.specs.declared.point.P.{P}
 use Rattle.geom.specs.Point.{point, rotate, lerp, dist}
-use Rattle.rules.specs.Standin.{FillRule, inside, pointInside}
+use Rattle.geom.specs.declared.rule.FillRule.{FillRule}
+use Rattle.geom.specs.Winding.{inside, pointInside}
 use Rattle.rules.specs.declared.Settings.{Settings}
 use Rattle.rules.specs.declared.Edge.{Edge}
 use Rattle.rules.specs.declared.Piece.{Piece}

@@ -20,7 +20,7 @@ use Rattle.seqs.specs.All.{all-map, all-append, all-sift}
 use Rattle.seqs.specs.Sift.{sift-append, sift-none}
 use Rattle.seqs.specs.Each.{each-map}
 use Rattle.geom.specs.declared.point.P.{P}
-use Rattle.rules.specs.Standin.{FillRule}
+use Rattle.geom.specs.declared.rule.FillRule.{FillRule}
 use Rattle.rules.specs.declared.Settings.{Settings}
 use Rattle.rules.specs.declared.Edge.{Edge}
 use Rattle.rules.specs.declared.Piece.{Piece}

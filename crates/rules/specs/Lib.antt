@@ -7,3 +7,7 @@ pub mod Sections
 pub mod FillSections
 pub mod Sweep
 pub mod SweepLaws
+pub mod Alls
+pub mod Accepted
+pub mod Turn
+pub mod Edges

@@ -17,7 +17,7 @@ use Rattle.seqs.specs.Tests.{either, and-both}
 use Rattle.seqs.specs.All.{all-map, all-append, all-mem}
 use Rattle.seqs.specs.Sift.{sift-append, sift-none, sift-in, sift-from, sift-pass}
 use Rattle.geom.specs.declared.point.P.{P}
-use Rattle.rules.specs.Standin.{FillRule}
+use Rattle.geom.specs.declared.rule.FillRule.{FillRule}
 use Rattle.rules.specs.declared.Settings.{Settings}
 use Rattle.rules.specs.declared.Piece.{Piece}
 use Rattle.rules.specs.declared.Entry.{Entry}

@@ -7,7 +7,7 @@ use lib.Ieee.{Float, le}
 use lib.ListN.{length}
 use mathlib.Core.List.{List·Permᴰ}
 use Rattle.seqs.specs.Lists.{sift, takeWhile, dropWhile, sortBy, upto, Sorted}
-use Rattle.rules.specs.Standin.{FillRule}
+use Rattle.geom.specs.declared.rule.FillRule.{FillRule}
 use Rattle.rules.specs.declared.Settings.{Settings}
 use Rattle.rules.specs.declared.Edge.{Edge}
 use Rattle.rules.specs.declared.Piece.{Piece}

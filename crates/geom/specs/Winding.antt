@@ -1,0 +1,57 @@
+-- The winding number of a point over rings, and which numbers are inside, as geom.rs works them out. Definitions only.
+use Prim.Native.Nat.{ℕ, zero, suc, _+_, _-_, _%_}
+use mathlib.Core.Bool.{Bool, true, not, _&&_, _||_, cond}
+use mathlib.Core.List.{List, [], _∷_}
+use lib.Dec.{ltb, eqb}
+use lib.ListN.{length, getD}
+use lib.IntN.{ℤ, pos, negsuc, _+ℤ_, natAbs}
+use lib.Ieee.{Float, lt, le}
+use Rattle.leaves.specs.Num.{zero64}
+use Rattle.geom.specs.declared.point.P.{P}
+use Rattle.geom.specs.declared.rule.FillRule.{FillRule}
+use Rattle.geom.specs.declared.rule.FillRule.the-variants.{NonZero, EvenOdd}
+use Rattle.geom.specs.Point.{point, minus, cross}
+
+-- what the edge from a to b adds to the winding number of p
+unfoldable pub edge : P → P → P → ℤ
+edge a b p =
+    cond (le (a .y) (p .y))
+    (cond (lt (p .y) (b .y) && lt zero64 (cross (minus b a) (minus p a))) (pos 1) (pos 0))
+    (cond (le (b .y) (p .y) && lt (cross (minus b a) (minus p a)) zero64) (negsuc 0) (pos 0))
+
+-- what the edges from a to the next corner, and so on, add
+unfoldable pub edges : P → P → List P → ℤ
+edges p a [] = pos 0
+edges p a (b ∷ rest) = edge a b p +ℤ edges p b rest
+
+-- a ring of under three corners adds nothing; the first edge of another comes from its last corner
+unfoldable pub ring : P → List P → ℤ
+ring p l = cond (ltb (length l) 3) (pos 0) (edges p (getD l (length l - 1) (point zero64 zero64)) l)
+
+unfoldable pub winding : List (List P) → P → ℤ
+winding [] p = pos 0
+winding (l ∷ ls) p = ring p l +ℤ winding ls p
+
+-- not 0; odd, below zero too
+unfoldable pub inside : FillRule → ℤ → Bool
+inside NonZero w = not (eqb (natAbs w) 0)
+inside EvenOdd w = eqb (natAbs w % 2) 1
+
+unfoldable pub pointInside : List (List P) → FillRule → P → Bool
+pointInside rs rule p = inside rule (winding rs p)
+
+-- ---- what the code works out on the way
+
+-- the edges between the corners of a list
+unfoldable pub chain : P → List P → ℤ
+chain p [] = pos 0
+chain p (a ∷ rest) = edges p a rest
+
+-- how many corners have at most this y
+unfoldable pub lows : Float → List P → ℕ
+lows y [] = 0
+lows y (a ∷ rest) = cond (le (a .y) y) 1 0 + lows y rest
+
+-- all of them or none
+unfoldable pub oneSide : Float → List P → Bool
+oneSide y l = eqb (lows y l) 0 || eqb (lows y l) (length l)
