@@ -2,7 +2,7 @@ use mathlib.Core.Path.{_≡_, refl, sym, ap, _∙_}
 use mathlib.Core.Bool.{true}
 use Prim.Native.Nat.{_≤_, _<_, _+_, _-_, _*_, _/_}
 use native.Mathlib.Omega.{arith}
-use lib.ListN.{length, drop, length-take, length-drop}
+use lib.ListN.{length, take, drop, getD, length-take, length-drop}
 use Rattle.seqs.specs.Adding.{Adding, adding-start, adding-at, adding-step, adding-end}
 use Rattle.geom.specs.Outline.{rings, rising}
 use Rattle.geom.specs.OutlineLaws.{rising-turn, rising-le}
@@ -71,7 +71,7 @@ loop-again c =
     let a = c .before .before .before .before .before .before .before .before .before .before .before .args in
     let t = rising-turn (l .a) (a .ends .now) (l .k) (length (a .corners .now) / 2) (l .inv .2) (c .before .before .before .before .before .before .loop-test .taken) in
     let r = c .before .before .build-ring .ensures in
-    let few = simp (length-take, length-drop) at (flat-few (a .g) _) in
+    let few = simp (length-take, length-drop) at (flat-few (a .g) (take (2 * getD (a .ends .now) (l .k) 0 - 2 * l .a) (drop (2 * l .a) (a .corners .now)))) in
     (search needs, omega (arith, r .count, t), t .rise, adding-step edgePlace edgeBlock 5 (λ e. refl) (λ n m. omega arith) _ _ (adding-at edgePlace edgeBlock (rest-next (a .g) (l .a) (a .ends .now) (l .k) (a .corners .now) (c .before .before .before .before .before .before .loop-test .taken)) (l .inv .3)) r)
 
 returns : tie.Need-returns Inv-loop μ-loop
