@@ -2,7 +2,7 @@
 use Prim.Native.Nat.{ℕ, zero, suc, _+_, _-_, _*_, _/_, _%_, _^_, _≤_, _<_}
 use native.Mathlib.Omega.{arith}
 use mathlib.Core.Path.{_≡_, refl, sym, ap, _∙_}
-use mathlib.Core.Bool.{Bool, true, false, not, cond}
+use mathlib.Core.Bool.{true, _&&_, cond}
 use mathlib.Core.List.{List, [], _∷_}
 use lib.Dec.{eqb}
 use lib.ListN.{length, take, drop, getD, length-take, length-drop}
@@ -18,6 +18,9 @@ use Rattle.geom.specs.Point.{point}
 use Rattle.geom.specs.Outline.{points, cut}
 use Rattle.geom.specs.OutlineLaws.{cornerAt, points-next, points-end, points-length, points-take, points-drop, points-last, cut-next, cut-none}
 use Rattle.geom.specs.Winding.{edge, edges, ring, winding, chain, lows, oneSide}
+use Rattle.geom.specs.declared.rule.FillRule.{FillRule}
+use Rattle.geom.specs.Steps.{along}
+use Rattle.geom.specs.Inside.{pointInside, stepsInside}
 use Rattle.geom.specs.WindingLaws.{chain-split, chain-small, ring-small}
 
 -- ---- signed sums: w in its bits, and r as a call answers it
@@ -129,3 +132,14 @@ module _ (p : P) (ends : List ℕ) (l : List Float) where
     part-small =
         let m = take (2 * e - 2 * a) (drop (2 * a) l) in
         omega (arith, ring-small p (points m), points-length m, length-take (2 * e - 2 * a) (drop (2 * a) l))
+
+-- ---- the steps of a segment
+
+module _ (rs : List (List P)) (rule : FillRule) (a b : P) (n i : ℕ) where
+  pub steps-next : i < n → stepsInside rs rule a b n i (n - i) ≡ (pointInside rs rule (along a b n i) && stepsInside rs rule a b n (i + 1) (n - (i + 1)))
+  unfolding stepsInside
+  steps-next h = let e : n - i ≡ suc (n - (i + 1)) = omega arith in rw e
+
+  pub steps-end : n ≤ i → stepsInside rs rule a b n i (n - i) ≡ true
+  unfolding stepsInside
+  steps-end h = let e : n - i ≡ 0 = omega arith in rw e

@@ -1,15 +1,13 @@
--- The winding number of a point over rings, and which numbers are inside, as geom.rs works them out. Definitions only.
-use Prim.Native.Nat.{ℕ, zero, suc, _+_, _-_, _%_}
-use mathlib.Core.Bool.{Bool, true, not, _&&_, _||_, cond}
+-- The winding number of a point over rings, as geom.rs works it out. Definitions only.
+use Prim.Native.Nat.{ℕ, _+_, _-_}
+use mathlib.Core.Bool.{Bool, _&&_, _||_, cond}
 use mathlib.Core.List.{List, [], _∷_}
 use lib.Dec.{ltb, eqb}
 use lib.ListN.{length, getD}
-use lib.IntN.{ℤ, pos, negsuc, _+ℤ_, natAbs}
+use lib.IntN.{ℤ, pos, negsuc, _+ℤ_}
 use lib.Ieee.{Float, lt, le}
 use Rattle.leaves.specs.Num.{zero64}
 use Rattle.geom.specs.declared.point.P.{P}
-use Rattle.geom.specs.declared.rule.FillRule.{FillRule}
-use Rattle.geom.specs.declared.rule.FillRule.the-variants.{NonZero, EvenOdd}
 use Rattle.geom.specs.Point.{point, minus, cross}
 
 -- what the edge from a to b adds to the winding number of p
@@ -31,14 +29,6 @@ ring p l = cond (ltb (length l) 3) (pos 0) (edges p (getD l (length l - 1) (poin
 unfoldable pub winding : List (List P) → P → ℤ
 winding [] p = pos 0
 winding (l ∷ ls) p = ring p l +ℤ winding ls p
-
--- not 0; odd, below zero too
-unfoldable pub inside : FillRule → ℤ → Bool
-inside NonZero w = not (eqb (natAbs w) 0)
-inside EvenOdd w = eqb (natAbs w % 2) 1
-
-unfoldable pub pointInside : List (List P) → FillRule → P → Bool
-pointInside rs rule p = inside rule (winding rs p)
 
 -- ---- what the code works out on the way
 

@@ -1,6 +1,9 @@
 // Points, outlines and winding: geom.rs. The cores take every f64, NaN and infinities too.
+pub mod inside;
+pub mod limits;
 pub mod point;
 pub mod rule;
+pub mod steps;
 pub mod winding;
 
 pub use point::P;

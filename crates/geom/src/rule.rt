@@ -1,6 +1,6 @@
 // Which winding numbers are inside.
 ghost use mathlib.Core.Path.{_≡_};
-ghost use Rattle.geom.specs.Winding.{inside};
+ghost use Rattle.geom.specs.Inside.{inside};
 
 pub enum FillRule {
     NonZero,

@@ -1,32 +1,26 @@
 -- Bounds of size: each operation keeps one. `Within n x` says that x is finite and at most 2 ^ n in size, `AtLeast j x` that it is finite and at least 2 ^ -j.
-use mathlib.Core.Path.{_≡_, refl, sym, ap, _∙_, subst}
+use mathlib.Core.Path.{_≡_, sym, ap, _∙_, subst}
 use mathlib.Core.Bool.{Bool, true, false, not}
 use mathlib.Core.Logic.{_⊎_, inl, inr}
-use Prim.Native.Nat.{ℕ, zero, suc, _+_, _-_, _*_, _/_, _^_, _≤_, _<_}
-use native.Mathlib.Nat.{zero-mul, one-mul, mul-one, mul-assoc, mul-comm, mul-left-comm, mul-right-comm, mul-pos, mul-le-mul, mul-le-mul-left, mul-le-mul-right, le-of-mul-le-mul-right, eq-zero-or-pos, le-trans, le-of-eq, lt-of-le-of-lt, lt-of-not-le}
-use native.Mathlib.Decide.{decLe}
+use Prim.Native.Nat.{ℕ, zero, suc, _+_, _*_, _/_, _^_, _≤_, _<_}
+use native.Mathlib.Nat.{one-mul, mul-one, mul-assoc, mul-comm, mul-left-comm, mul-pos, mul-le-mul, mul-le-mul-left, mul-le-mul-right, le-of-mul-le-mul-right, eq-zero-or-pos, le-trans, le-of-eq, lt-of-le-of-lt}
 use native.Mathlib.Omega.{arith}
-use lib.Dec.{T, eqb, lit<, lit≤}
-use lib.Pow.{pow-pos, pow-add, pow-mono}
+use lib.Dec.{T, lit<}
+use lib.Pow.{pow-add, pow-mono}
 use lib.IntN.{ℤ, pos, negsuc, natAbs}
-use borrow.Author.Tests.{ne-eqb}
-use lib.Ieee.{Float, nan, inf, fin, binary64, up, down, unlike, round, mul, div, neg, ofInt, fits, lt, le}
-use lib.Ieee.Fits.{up-pos, down-pos, round-fits}
+use lib.Ieee.{Float, nan, inf, fin, binary64, up, down, unlike, round, mul, neg, ofInt, lt, le}
+use lib.Ieee.Fits.{down-pos}
 use lib.Ieee.Exact.{HasValue, round-exact}
 use lib.Ieee.Order.{round-mono}
 use lib.Ieee.Positive.{den, den-pos}
 use Rattle.leaves.specs.Num.{_⊕_, _⊖_, _⊗_, _⊘_, zero64, real, literal}
-use Rattle.leaves.specs.Root.{root}
 use Rattle.leaves.specs.Whole.{part, wholeOf, floor, ceil}
 use Rattle.leaves.specs.Order.{negative, finite, magnitude}
-use Rattle.leaves.specs.Value.{unitsOf, Within, AtLeast, Nearer}
-use Rattle.leaves.specs.Units.{units-exact}
+use Rattle.leaves.specs.Value.{Within, AtLeast}
 use Rattle.leaves.specs.Fraction.{over, under, plus, less, le→cross, cross→lt}
-use Rattle.leaves.specs.Rounded.{Rounded, round-up, add-rounded, sub-rounded}
+use Rattle.leaves.specs.Rounded.{Rounded, neg-round, round-up, add-rounded, sub-rounded}
 use Rattle.leaves.specs.Monotone.{above-zero, div-rounded}
-use Rattle.leaves.specs.WholeLaws.{neg-round}
-use Rattle.leaves.specs.Roots.{above-is, nothing-below}
-use Rattle.leaves.specs.Floors.{part-toward, part-away, value-units}
+use Rattle.leaves.specs.Floors.{part-toward}
 use Rattle.leaves.specs.FloorLaws.{away-least}
 
 pub within-finite : (n : ℕ) (x : Float) → Within n x → T (finite x)
@@ -59,6 +53,15 @@ within-parts n nan h = absurd h
 within-parts n (inf s) h = absurd h
 within-parts n (fin true m e) h = (omega arith, h)
 within-parts n (fin false m e) h = (h, omega arith)
+
+-- a constant, by comparing two numbers
+pub within-fin : (n : ℕ) (s : Bool) (m : ℕ) (e : ℤ) → m * up e ≤ 2 ^ n * down e → Within n (fin s m e)
+unfolding Within
+within-fin n s m e h = h
+
+pub atleast-fin : (j m : ℕ) (e : ℤ) → down e ≤ m * up e * 2 ^ j → AtLeast j (fin false m e)
+unfolding AtLeast
+atleast-fin j m e h = h
 
 -- ---- what a test shows
 pub within-le : (n : ℕ) (x y : Float) → T (le (magnitude x) y) → Within n y → Within n x

@@ -1,14 +1,17 @@
 -- A whole number of small size goes to an integer and back without loss: so do floor and ceiling of what is small.
-use mathlib.Core.Path.{_≡_, refl, sym, ap, _∙_, subst}
-use mathlib.Core.Bool.{Bool, true, false, not, _&&_, _||_, cond}
-use Prim.Native.Nat.{ℕ, zero, suc, _+_, _-_, _*_, _/_, _%_, _^_, _≤_, _<_, min}
-use native.Mathlib.Nat.{zero-mul, mul-one, mul-assoc, mul-right-comm, mul-le-mul-right, le-of-mul-le-mul-right, eq-of-mul-eq-mul-right, div-eq-of-eq-mul-left, div-add-mod', le-trans}
+use mathlib.Core.Path.{_≡_, refl, sym, ap, _∙_}
+use mathlib.Core.Bool.{Bool, true, false, cond}
+use Prim.Native.Nat.{ℕ, zero, suc, _+_, _-_, _*_, _/_, _%_, _^_, _≤_, _<_, min, zero-le}
+use native.Mathlib.Nat.{zero-mul, mul-one, mul-right-comm, le-of-mul-le-mul-right, eq-of-mul-eq-mul-right, div-eq-of-eq-mul-left, div-add-mod', zero-div, le-trans}
 use native.Mathlib.Omega.{arith}
-use lib.Dec.{T, eqb, eqb-refl, lit<, lit≤}
+use lib.Dec.{T, eqb, eqb-refl, le→leb, lit<}
+use lib.Signed.{leZ}
+use lib.Ieee.Nearest.{div-mono}
 use lib.Pow.{pow-pos, pow-mono}
 use lib.IntN.{ℤ, pos, negsuc, negℤ, natAbs, _*ℤ_, pos-*ℤ-pos, negsuc-*ℤ-pos, zero-*ℤ}
-use lib.Ieee.{Float, nan, inf, fin, binary64, up, down, round, fits, ofInt, toSigned, toUnsigned, eq, le, isNan}
-use lib.Ieee.Fits.{down-pos, and-i, eq→eqb}
+use lib.Ieee.{Float, nan, inf, fin, binary64, up, down, round, fits, ofInt, toSigned, toUnsigned, eq, le}
+use lib.Ieee.Fits.{down-pos, and-i}
+use lib.Ieee.Back.{round-whole}
 use lib.Ieee.Scale.{round-same}
 use Rattle.leaves.specs.Num.{zero64, real}
 use Rattle.leaves.specs.Whole.{floor, ceil}
@@ -17,7 +20,7 @@ use Rattle.leaves.specs.Value.{unitsOf, valueOf, Within, IsWhole}
 use Rattle.leaves.specs.Units.{units-exact}
 use Rattle.leaves.specs.Fraction.{le→cross}
 use Rattle.leaves.specs.Rounded.{own-round}
-use Rattle.leaves.specs.Floors.{floor-has, ceil-has}
+use Rattle.leaves.specs.Floors.{value-units, value-is, floor-has, ceil-has}
 use Rattle.leaves.specs.FloorLaws.{floor-fits, ceil-fits, floor-up, ceil-up}
 use Rattle.leaves.specs.Bounds.{within-finite, within-floor, within-ceil}
 
@@ -109,6 +112,16 @@ unsigned-keeps n (fin true m e) l f g w h =
     nothing : (a d u l : ℕ) → 0 < d → a * l ≡ u * d → a ≡ 0 → u ≡ 0 * l
     nothing a d u l D e z = eq-of-mul-eq-mul-right d D u (0 * l) (omega (arith, ap (λ (x : ℕ). x * l) z))
 
+-- every whole number of 53 digits is a float
+pub real-whole : (k : ℤ) → natAbs k ≤ 2 ^ 53 → IsWhole 53 (real k) k
+unfolding ofInt
+real-whole (pos n) h =
+    let v = value-units (round binary64 false n 1) false n (round-whole binary64 false n h) in
+    record { small = h; exact = value-is (round binary64 false n 1) false (n * 2 ^ 1074) (v .1) (v .0) ∙ sym (pos-*ℤ-pos n (2 ^ 1074)); back = eq-self (round binary64 false n 1) (v .2) }
+real-whole (negsuc n) h =
+    let v = value-units (round binary64 true (suc n) 1) true (suc n) (round-whole binary64 true (suc n) h) in
+    record { small = h; exact = value-is (round binary64 true (suc n) 1) true (suc n * 2 ^ 1074) (v .1) (v .0) ∙ sym (negsuc-*ℤ-pos n (2 ^ 1074)); back = eq-self (round binary64 true (suc n) 1) (v .2) }
+
 -- ---- of floor and ceiling
 pub floor-signed : (n : ℕ) (x : Float) → n ≤ 62 → T (fits binary64 x) → Within n x → IsWhole n (floor x) (toSigned 63 (floor x))
 floor-signed n x l f h = signed-keeps n (floor x) l (floor-fits x) (floor-has x f (within-finite n x h) .whole) (within-floor n x (omega arith) h)
@@ -121,3 +134,80 @@ floor-unsigned n x l f g h = unsigned-keeps n (floor x) l (floor-fits x) (floor-
 
 pub ceil-unsigned : (n : ℕ) (x : Float) → n ≤ 63 → T (fits binary64 x) → T (le zero64 x) → Within n x → IsWhole n (ceil x) (pos (toUnsigned 64 (ceil x)))
 ceil-unsigned n x l f g h = unsigned-keeps n (ceil x) l (ceil-fits x) (ceil-up x g) (ceil-has x f (within-finite n x h) .whole) (within-ceil n x (omega arith) h)
+
+-- ---- the casts go up with their operand
+neg-le-pos : (a b : ℕ) → T (leZ (negℤ (pos a)) (pos b))
+neg-le-pos zero b = le→leb 0 b (omega arith)
+neg-le-pos (suc a) b = tt
+
+neg-mono : (a b : ℕ) → b ≤ a → T (leZ (negℤ (pos a)) (negℤ (pos b)))
+neg-mono zero zero h = tt
+neg-mono zero (suc b) h = absurd (none b h)
+  where
+    none : (b : ℕ) → suc b ≤ 0 → ⊥
+    none b h = omega arith
+neg-mono (suc a) zero h = tt
+neg-mono (suc a) (suc b) h = le→leb b a (omega arith)
+
+pos-mono : (a b : ℕ) → a ≤ b → T (leZ (pos a) (pos b))
+pos-mono a b h = le→leb a b h
+
+no-part : (a d b c : ℕ) → 0 < d → 0 < c → a * c + b * d ≤ 0 → (a / d ≡ 0) × (b / c ≡ 0)
+no-part zero d zero c D C h = (zero-div d, zero-div c)
+no-part (suc a) d b c D C h = absurd (some c (a * c + b * d) C (omega arith))
+  where
+    some : (c r : ℕ) → 0 < c → c + r ≤ 0 → ⊥
+    some c r C h = omega arith
+no-part zero d (suc b) c D C h = absurd (some d (b * d) D (omega arith))
+  where
+    some : (d r : ℕ) → 0 < d → d + r ≤ 0 → ⊥
+    some d r D h = omega arith
+
+pub signed-mono : (h : ℕ) (x y : Float) → T (le x y) → T (leZ (toSigned h x) (toSigned h y))
+unfolding toSigned finite
+signed-mono h nan y l = unfold le in absurd l
+signed-mono h (inf s) nan l = unfold le in absurd l
+signed-mono h (inf true) (inf true) l = neg-mono (2 ^ h) (2 ^ h) (omega arith)
+signed-mono h (inf true) (inf false) l = neg-le-pos (2 ^ h) (2 ^ h - 1)
+signed-mono h (inf false) (inf true) l = unfold le in absurd l
+signed-mono h (inf false) (inf false) l = pos-mono (2 ^ h - 1) (2 ^ h - 1) (omega arith)
+signed-mono h (inf true) (fin true n d) l = neg-mono (2 ^ h) (min (n * up d / down d) (2 ^ h)) (omega arith)
+signed-mono h (inf true) (fin false n d) l = neg-le-pos (2 ^ h) (min (n * up d / down d) (2 ^ h - 1))
+signed-mono h (inf false) (fin t n d) l = unfold le in absurd l
+signed-mono h (fin s m e) nan l = unfold le in absurd l
+signed-mono h (fin s m e) (inf true) l = unfold le in absurd l
+signed-mono h (fin true m e) (inf false) l = neg-le-pos (min (m * up e / down e) (2 ^ h)) (2 ^ h - 1)
+signed-mono h (fin false m e) (inf false) l = pos-mono (min (m * up e / down e) (2 ^ h - 1)) (2 ^ h - 1) (omega arith)
+signed-mono h (fin true m e) (fin false n d) l = neg-le-pos (min (m * up e / down e) (2 ^ h)) (min (n * up d / down d) (2 ^ h - 1))
+signed-mono h (fin true m e) (fin true n d) l =
+    let p = div-mono (n * up d) (down d) (m * up e) (down e) (down-pos d) (down-pos e) (omega (arith, le→cross (fin true m e) (fin true n d) tt tt l)) in
+    neg-mono (min (m * up e / down e) (2 ^ h)) (min (n * up d / down d) (2 ^ h)) (omega arith)
+signed-mono h (fin false m e) (fin false n d) l =
+    let p = div-mono (m * up e) (down e) (n * up d) (down d) (down-pos e) (down-pos d) (omega (arith, le→cross (fin false m e) (fin false n d) tt tt l)) in
+    pos-mono (min (m * up e / down e) (2 ^ h - 1)) (min (n * up d / down d) (2 ^ h - 1)) (omega arith)
+signed-mono h (fin false m e) (fin true n d) l =
+    let p = no-part (m * up e) (down e) (n * up d) (down d) (down-pos e) (down-pos d) (omega (arith, le→cross (fin false m e) (fin true n d) tt tt l)) in
+    let a : min (m * up e / down e) (2 ^ h - 1) ≡ 0 = omega arith in
+    let b : min (n * up d / down d) (2 ^ h) ≡ 0 = omega arith in
+    rw (a, b) tt
+
+pub unsigned-mono : (w : ℕ) (x y : Float) → T (le x y) → toUnsigned w x ≤ toUnsigned w y
+unfolding toUnsigned finite
+unsigned-mono w nan y l = unfold le in absurd l
+unsigned-mono w (inf s) nan l = unfold le in absurd l
+unsigned-mono w (inf true) (inf t) l = zero-le
+unsigned-mono w (inf false) (inf true) l = unfold le in absurd l
+unsigned-mono w (inf false) (inf false) l = omega arith
+unsigned-mono w (inf true) (fin t n d) l = zero-le
+unsigned-mono w (inf false) (fin t n d) l = unfold le in absurd l
+unsigned-mono w (fin s m e) nan l = unfold le in absurd l
+unsigned-mono w (fin s m e) (inf true) l = unfold le in absurd l
+unsigned-mono w (fin true m e) (inf false) l = zero-le
+unsigned-mono w (fin false m e) (inf false) l = omega arith
+unsigned-mono w (fin true m e) (fin t n d) l = zero-le
+unsigned-mono w (fin false m e) (fin false n d) l =
+    let p = div-mono (m * up e) (down e) (n * up d) (down d) (down-pos e) (down-pos d) (omega (arith, le→cross (fin false m e) (fin false n d) tt tt l)) in
+    omega arith
+unsigned-mono w (fin false m e) (fin true n d) l =
+    let p = no-part (m * up e) (down e) (n * up d) (down d) (down-pos e) (down-pos d) (omega (arith, le→cross (fin false m e) (fin true n d) tt tt l)) in
+    omega arith

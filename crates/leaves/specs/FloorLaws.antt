@@ -1,13 +1,13 @@
 -- The laws of `floor` and `ceil`: nothing else has what IEEE 754 asks, they go up with x, and lie below and above it; a whole number is its own.
 use mathlib.Core.Path.{_≡_, refl, sym, ap, subst, _∙_}
 use mathlib.Core.Bool.{Bool, true, false, not, cond}
-use Prim.Native.Nat.{ℕ, zero, suc, _+_, _-_, _*_, _/_, _%_, _^_, _≤_, _<_}
-use native.Mathlib.Nat.{suc-mul, mul-pos, mul-right-comm, mul-le-mul-right, le-of-mul-le-mul-right, lt-of-mul-lt-mul-right, mul-add-div-right, div-eq-of-lt, div-add-mod', add-zero, le-trans, le-of-eq, lt-of-lt-of-le}
+use Prim.Native.Nat.{ℕ, zero, suc, _+_, _*_, _/_, _%_, _^_, _≤_, _<_}
+use native.Mathlib.Nat.{suc-mul, mul-right-comm, mul-le-mul-right, le-of-mul-le-mul-right, lt-of-mul-lt-mul-right, mul-add-div-right, div-eq-of-lt, div-add-mod', add-zero, le-trans, le-of-eq, lt-of-lt-of-le}
 use native.Mathlib.Omega.{arith}
 use lib.IntN.{ℤ, pos, negℤ, _+ℤ_, +ℤ-assoc, +ℤ-comm, +ℤ-invr, +ℤ-idl, +ℤ-idr, natAbs}
 use lib.Pow.{pow-pos}
 use lib.Dec.{T, lit<}
-use lib.Ieee.{Float, nan, inf, fin, binary64, up, down, round, fits, le, isNan}
+use lib.Ieee.{Float, nan, inf, fin, binary64, up, down, fits, le, isNan}
 use lib.Ieee.Fits.{down-pos}
 use lib.Ieee.Nearest.{div-mono}
 use Rattle.leaves.specs.Num.{zero64}
@@ -15,7 +15,7 @@ use Rattle.leaves.specs.Order.{negative, finite}
 use Rattle.leaves.specs.Whole.{part, wholeOf, floor, ceil}
 use Rattle.leaves.specs.Value.{unitsOf, valueOf, IsFloor, IsCeil}
 use Rattle.leaves.specs.Units.{same-units}
-use Rattle.leaves.specs.Fraction.{over, under, plus, less, le→cross}
+use Rattle.leaves.specs.Fraction.{over, under, le→cross}
 use Rattle.leaves.specs.FloatOrder as order
 use Rattle.leaves.specs.Rounded.{Rounded, rounded-le, own-rounded}
 use Rattle.leaves.specs.Floors.{part-toward, part-away, value-is, whole-fits, floor-has, ceil-has}
@@ -181,3 +181,10 @@ le-ceil (fin false m e) f h =
     rounded-le (own-rounded (fin false m e) tt f) (whole-rounded true false m e) (down-pos e) (lit< tt) (omega (arith, part-away (m * up e) (down e) (down-pos e) .0))
 le-ceil (fin true m e) f h =
     rounded-le (own-rounded (fin true m e) tt f) (whole-rounded false true m e) (down-pos e) (lit< tt) (omega (arith, part-toward (m * up e) (down e) (down-pos e) .0))
+
+-- the greatest whole number up to x, and the least from x on
+pub whole-le-floor : (v x : Float) → T (fits binary64 v) → T (finite v) → unitsOf v % 2 ^ 1074 ≡ 0 → T (le v x) → T (le v (floor x))
+whole-le-floor v x f g w h = subst (λ (r : Float). T (le r (floor x))) (floor-whole v f g w) (floor-mono v x h)
+
+pub ceil-le-whole : (x v : Float) → T (fits binary64 v) → T (finite v) → unitsOf v % 2 ^ 1074 ≡ 0 → T (le x v) → T (le (ceil x) v)
+ceil-le-whole x v f g w h = subst (λ (r : Float). T (le (ceil x) r)) (ceil-whole v f g w) (ceil-mono x v h)

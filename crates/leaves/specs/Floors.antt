@@ -1,25 +1,21 @@
 -- `floor` and `ceil` have what IEEE 754 asks of them: the proof. `IsFloor` and `IsCeil` of Value say what it comes to.
-use mathlib.Core.Path.{_≡_, refl, sym, ap, subst, _∙_}
-use mathlib.Core.Bool.{Bool, true, false, not, cond}
+use mathlib.Core.Path.{_≡_, refl, sym, ap, _∙_}
+use mathlib.Core.Bool.{Bool, true, false, cond}
 use Prim.Native.Nat.{ℕ, zero, suc, _+_, _-_, _*_, _/_, _%_, _^_, _≤_, _<_}
-use native.Mathlib.Nat.{zero-mul, mul-one, mul-pos, mul-comm, mul-right-comm, mul-mod-left, mul-le-mul-right, mul-lt-mul-of-pos-right, le-of-mul-le-mul-right, lt-of-mul-lt-mul-right, mul-div-cancel, mul-add-div-right, div-eq-of-lt, div-add-mod', div-lt-iff-lt-mul, mod-lt, add-zero, le-trans, le-of-eq, lt-of-le-of-lt, lt-of-lt-of-le}
+use native.Mathlib.Nat.{mul-one, mul-right-comm, mul-mod-left, mul-le-mul-right, mul-lt-mul-of-pos-right, le-of-mul-le-mul-right, lt-of-mul-lt-mul-right, mul-div-cancel, div-add-mod', mod-lt}
 use native.Mathlib.Omega.{arith}
-use lib.IntN.{ℤ, pos, negℤ, _+ℤ_, negℤ-+ℤ, +ℤ-assoc, +ℤ-comm, +ℤ-invl, +ℤ-invr, +ℤ-idl, +ℤ-idr, natAbs}
+use lib.IntN.{ℤ, pos, negℤ, _+ℤ_, negℤ-+ℤ, +ℤ-assoc, +ℤ-invl, +ℤ-idr}
 use lib.Pow.{pow-pos}
-use lib.Dec.{T, eqb, eqb→eq, lit<}
+use lib.Dec.{T, eqb, eqb→eq}
 use borrow.Author.Tests.{eqb-false}
-use lib.Ieee.{Float, nan, inf, fin, binary64, up, down, round, fits, le, isNan}
+use lib.Ieee.{Float, nan, inf, fin, binary64, up, down, fits}
 use lib.Ieee.Fits.{down-pos, round-fits, nan-fits, inf-fits}
 use lib.Ieee.Exact.{HasValue}
-use lib.Ieee.Nearest.{div-mono}
 use Rattle.leaves.specs.Order.{negative, finite}
 use Rattle.leaves.specs.Whole.{part, wholeOf, floor, ceil}
 use Rattle.leaves.specs.Value.{unitsOf, valueOf, IsFloor, IsCeil}
-use Rattle.leaves.specs.Units.{units-exact, same-units}
-use Rattle.leaves.specs.Fraction.{over, under, le→cross}
-use Rattle.leaves.specs.FloatOrder.{le-refl}
+use Rattle.leaves.specs.Units.{units-exact}
 use Rattle.leaves.specs.WholeLaws.{whole-exact}
-use Rattle.leaves.specs.Rounded.{Rounded, rounded-le, own-rounded}
 
 -- ---- a / d, made whole: toward zero it is at most a / d and less than one off, away from zero at least
 pub part-toward : (a d : ℕ) → 0 < d → (part false a d * d ≤ a) × (a < part false a d * d + d)

@@ -1,13 +1,13 @@
 -- Bounds of size through the root: it halves the digits.
-use mathlib.Core.Path.{_≡_, refl, sym, ap, _∙_, subst}
+use mathlib.Core.Path.{_≡_, sym, ap, _∙_, subst}
 use mathlib.Core.Bool.{Bool, true, false}
-use Prim.Native.Nat.{ℕ, zero, suc, _+_, _-_, _*_, _/_, _^_, _≤_, _<_, zero-le}
-use native.Mathlib.Nat.{zero-mul, one-mul, mul-assoc, mul-right-comm, mul-pos, mul-le-mul, mul-le-mul-right, le-of-mul-le-mul-right, eq-of-mul-eq-mul-right, le-trans, le-of-eq, lt-of-le-of-lt, lt-of-not-le, le-of-lt}
+use Prim.Native.Nat.{ℕ, zero, suc, _+_, _-_, _*_, _^_, _≤_, _<_, zero-le}
+use native.Mathlib.Nat.{zero-mul, one-mul, mul-assoc, mul-pos, mul-le-mul, mul-le-mul-right, le-of-mul-le-mul-right, eq-of-mul-eq-mul-right, le-trans, le-of-eq, lt-of-le-of-lt, lt-of-not-le, le-of-lt}
 use native.Mathlib.Decide.{decLe}
 use native.Mathlib.Omega.{arith}
 use lib.Dec.{T, lit<}
 use lib.Pow.{pow-pos, pow-add, pow-mono}
-use lib.IntN.{ℤ, pos}
+use lib.IntN.{ℤ}
 use lib.Ieee.{Float, nan, inf, fin, binary64, up, down, round, fits, le}
 use lib.Ieee.Fits.{down-pos, round-fits}
 use lib.Ieee.Exact.{HasValue, round-exact}
@@ -15,7 +15,7 @@ use Rattle.leaves.specs.Num.{zero64}
 use Rattle.leaves.specs.Root.{root}
 use Rattle.leaves.specs.Order.{negative, finite}
 use Rattle.leaves.specs.Value.{unitsOf, Within, AtLeast, Nearer}
-use Rattle.leaves.specs.Units.{units-exact, own-units}
+use Rattle.leaves.specs.Units.{units-exact}
 use Rattle.leaves.specs.Roots.{above-is, above-negative, nothing-below}
 use Rattle.leaves.specs.Bounds.{power}
 

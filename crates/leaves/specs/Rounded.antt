@@ -1,19 +1,18 @@
 -- What an operation gives is a fraction (p - n) / c, rounded once, and rounding keeps the order: of signs too.
 use mathlib.Core.Path.{_≡_, refl, sym, ap, _∙_, subst}
-use mathlib.Core.Bool.{Bool, true, false, not, _&&_, cond, Bool·beq}
-use Prim.Native.Nat.{ℕ, zero, suc, _+_, _-_, _*_, _/_, _^_, _≤_, _<_}
-use native.Mathlib.Nat.{zero-mul, mul-pos, mul-assoc, mul-comm, mul-left-comm, mul-right-comm, lt-of-lt-of-le, le-of-eq, eq-of-mul-eq-mul-right}
+use mathlib.Core.Bool.{Bool, true, false, not, cond}
+use Prim.Native.Nat.{ℕ, zero, suc, _+_, _-_, _*_, _^_, _≤_, _<_}
+use native.Mathlib.Nat.{zero-mul, mul-pos, lt-of-lt-of-le, le-of-eq, eq-of-mul-eq-mul-right}
 use native.Mathlib.Omega.{arith}
-use lib.Dec.{T, ltb, eqb, ltb→lt, nltb→le, lit<}
-use lib.Pow.{pow-pos, pow-add}
-use lib.IntN.{ℤ, pos, negsuc}
-use borrow.Author.Tests.{ne-eqb}
-use lib.Ieee.{Float, nan, inf, fin, binary64, up, down, unlike, round, sum, add, sub, mul, div, neg, ofInt, fits, lt, le}
-use lib.Ieee.Fits.{down-pos, up-pos, round-fits}
+use lib.Dec.{T, ltb, ltb→lt, nltb→le, lit<}
+use lib.Pow.{pow-add}
+use lib.IntN.{ℤ, pos}
+use lib.Ieee.{Float, nan, inf, fin, Format, low, emax, prec, binary64, odd, units, up, down, unlike, round, sum, add, sub, mul, neg, fits, le}
+use lib.Ieee.Fits.{down-pos, round-fits, round-is}
 use lib.Ieee.Exact.{HasValue, round-exact}
 use lib.Ieee.Nearest.{div-same}
 use lib.Ieee.Order.{round-mono}
-use lib.Ieee.Positive.{den, den-pos}
+use lib.Ieee.Positive.{den}
 use lib.Ieee.Scale.{round-same}
 use Rattle.leaves.specs.Num.{zero64}
 use Rattle.leaves.specs.Order.{finite}
@@ -21,7 +20,6 @@ use Rattle.leaves.specs.Value.{unitsOf}
 use Rattle.leaves.specs.Units.{grid, units-exact, units-lt, same-value}
 use Rattle.leaves.specs.Fraction.{over, under, plus, less}
 use Rattle.leaves.specs.FloatOrder.{le-trans, neg-le}
-use Rattle.leaves.specs.WholeLaws.{neg-round}
 
 -- v is (p - n) / c, rounded
 pub record Rounded (v : Float) (p n c : ℕ) : Type 0 where
@@ -29,6 +27,23 @@ pub record Rounded (v : Float) (p n c : ℕ) : Type 0 where
   pub size : ℕ
   pub is : v ≡ round binary64 sign size c
   pub value : over sign size + n ≡ p + under sign size
+
+-- ---- a number and its opposite round alike
+neg-odd : (d q k l : ℕ) → neg (odd d false q k l) ≡ odd d true q k l
+unfolding neg odd
+neg-odd d zero k l = refl
+neg-odd d (suc q) k l = refl
+
+neg-units : (f : Format) (q k : ℕ) → neg (units f false q k) ≡ units f true q k
+unfolding units neg
+neg-units f q k = go (ltb (q * 2 ^ k) (2 ^ (low f + suc (emax f))))
+  where
+    go : (b : Bool) → neg (cond b (odd (suc (prec f)) false q k (low f)) (inf false)) ≡ cond b (odd (suc (prec f)) true q k (low f)) (inf true)
+    go true = neg-odd (suc (prec f)) q k (low f)
+    go false = refl
+
+pub neg-round : (f : Format) (a d : ℕ) → neg (round f false a d) ≡ round f true a d
+neg-round f a d = ap neg (round-is f false a d) ∙ neg-units f _ _ ∙ sym (round-is f true a d)
 
 -- ---- the order
 pub round-up : (a b : ℕ) → 0 < b → T (le zero64 (round binary64 false a b))

@@ -1,7 +1,7 @@
 -- A finite f64 as a whole number of units of 2 ^ -1074, the smallest value, and what IEEE 754 asks of root, floor and ceiling in these numbers; bounds of size. Definitions only.
 use Prim.Native.Nat.{ℕ, _+_, _*_, _/_, _%_, _^_, _≤_, _<_}
 use mathlib.Core.Path.{_≡_}
-use mathlib.Core.Bool.{Bool, true, false, not, cond}
+use mathlib.Core.Bool.{true, false, not, cond}
 use lib.IntN.{ℤ, pos, negℤ, natAbs, _+ℤ_, _*ℤ_}
 use lib.Dec.{T}
 use lib.Ieee.{Float, nan, inf, fin, binary64, up, down, eq, fits}

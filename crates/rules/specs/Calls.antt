@@ -5,44 +5,30 @@ use mathlib.Core.List.{List, [], _∷_, _++_, map}
 use lib.Dec.{leb, ltb, eqb}
 use lib.IntN.{ℤ}
 use lib.ListN.{length, drop, replicate}
-use lib.Ieee.{Float, neg, le}
+use lib.Ieee.{Float}
 use Rattle.refusal.specs.Refusal.{DONE, LAYOUT, NUMBER, SETTING, TURN, SIZE, WORK, ROOM}
-use Rattle.leaves.specs.Num.{_⊕_, _⊗_, literal, half}
-use Rattle.leaves.specs.Order.{finite}
 use Rattle.seqs.specs.Lists.{each}
 use Rattle.geom.specs.declared.point.P.{P}
 use Rattle.geom.specs.Outline.{rings}
+use Rattle.geom.specs.Limits.{goodOutline, goodNumbers, goodSpacing, goodLen, goodInset, goodStagger, goodTurn}
 use Rattle.geom.specs.declared.rule.FillRule.{FillRule}
-use Rattle.rules.specs.Standin.{layout, numbers, flat}
 use Rattle.rules.specs.declared.Settings.{Settings}
 use Rattle.rules.specs.declared.Entry.{Entry}
-use Rattle.rules.specs.Fill.{edges, rowNumbers, rowList}
+use Rattle.rules.specs.Fill.{edges, rowNumbers, rowList, tatami}
 
 -- ---- who is turned away
 
--- ends included, NaN outside
-unfoldable pub within : Float → Float → Float → Bool
-within lo hi x = le lo x && le x hi
-
 -- spacing 0.5 to 1,000; len 1 to 1,000; inset and pull -100 to 100; stagger 0 to 1,000
-unfoldable pub settings : Settings → ℕ → Bool
-settings g stagger =
-    within half (literal 1000 1) (g .spacing) && within (literal 1 1) (literal 1000 1) (g .len)
-    && within (neg (literal 100 1)) (literal 100 1) (g .inset) && within (neg (literal 100 1)) (literal 100 1) (g .pull) && leb stagger 1000
-
--- cosine and sine finite, and c·c + s·s, worked in f64, within 0.999999 to 1.000001
-unfoldable pub turns : Settings → Bool
-turns g =
-    finite (g .cosine) && finite (g .sine)
-    && within (literal 999999 1000000) (literal 1000001 1000000) (g .cosine ⊗ g .cosine ⊕ g .sine ⊗ g .sine)
+unfoldable pub goodSettings : Settings → ℕ → Bool
+goodSettings g stagger = goodSpacing (g .spacing) && goodLen (g .len) && goodInset (g .inset) && goodInset (g .pull) && goodStagger stagger
 
 -- the first of the table's 1 to 5 that applies, and where none does `rest`: these look at no slice but the outline
 unfoldable pub gate : List Float → List ℕ → Settings → ℕ → ℕ → ℕ
 gate corners ends g stagger rest =
-    cond (not (layout corners ends)) LAYOUT
-    (cond (not (numbers corners)) NUMBER
-    (cond (not (settings g stagger)) SETTING
-    (cond (not (turns g)) TURN
+    cond (not (goodOutline corners ends)) LAYOUT
+    (cond (not (goodNumbers corners)) NUMBER
+    (cond (not (goodSettings g stagger)) SETTING
+    (cond (not (goodTurn (g .cosine) (g .sine))) TURN
     (cond (ltb 4096 (length (rowNumbers g (edges g (rings corners ends))))) SIZE rest))))
 
 -- the need of a fill with E kept edges and I kept pieces: 6E + 4I floats and 4E + 6I whole numbers
@@ -75,15 +61,23 @@ written n answer out = cond (eqb n DONE) (answer ++ drop (length answer) out) ou
 abbrev pub worked : {A : Type 0} → ℕ → A → List A → List A
 worked n z w = cond (leb 1 n && leb n 5) w (replicate (length w) z)
 
--- tatami's output: the points of all sections, x before y, and where each section ends, counted in points
-unfoldable pub sewnPoints : List (List P) → List Float
-sewnPoints ss = flat (each (λ s. s) ss)
+-- ---- the output of tatami: the points of all sections, each an x and a y, and where each section ends, counted in points
+
+unfoldable pub sewnPoints : List (List P) → List P
+sewnPoints ss = each (λ s. s) ss
 
 unfoldable pub sewnEnds : ℕ → List (List P) → List ℕ
 sewnEnds n [] = []
 sewnEnds n (s ∷ ss) = (n + length s) ∷ sewnEnds (n + length s) ss
 
--- the row list's output: y, xa and xb of each piece, its row number, and its section number
+-- tatami's answer, for output slices of `points` floats and `ends` whole numbers
+unfoldable pub tatamiAnswer : List Float → List ℕ → FillRule → Settings → ℕ → Bool → ℕ → ℕ → ℕ → ℕ → ℕ
+tatamiAnswer corners ends rule g stagger bottomUp floats wholes points sectionEnds =
+    let ss = tatami (rings corners ends) rule g stagger bottomUp in
+    refusal corners ends rule g stagger bottomUp floats wholes (leb (2 * length (sewnPoints ss)) points && leb (length ss) sectionEnds)
+
+-- ---- the output of the row list: y, xa and xb of each piece, its row number, and its section number
+
 unfoldable pub listedFloats : List Entry → List Float
 listedFloats es = each (λ e. e .piece .y ∷ e .piece .xa ∷ e .piece .xb ∷ []) es
 
@@ -93,6 +87,8 @@ listedRows es = map (λ e. e .piece .k) es
 unfoldable pub listedSections : List Entry → List ℕ
 listedSections es = map (λ e. e .section) es
 
--- the defined output does not exceed an output slice
-abbrev pub room : {A : Type 0} → List A → List A → Bool
-room answer out = leb (length answer) (length out)
+-- the row list's answer, for output slices of `ys` floats, `rows` row numbers and `sections` section numbers
+unfoldable pub rowListAnswer : List Float → List ℕ → FillRule → Settings → ℕ → Bool → ℕ → ℕ → ℕ → ℕ → ℕ → ℕ
+rowListAnswer corners ends rule g stagger bottomUp floats wholes ys rows sections =
+    let n = length (rowList (rings corners ends) rule g bottomUp) in
+    refusal corners ends rule g stagger bottomUp floats wholes (leb (3 * n) ys && leb n rows && leb n sections)

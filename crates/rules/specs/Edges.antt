@@ -11,25 +11,25 @@ use borrow.Author.Tests.{ne-eqb}
 use lib.Pow.{pow-pos, pow-add, pow-mono}
 use lib.IntN.{ℤ, pos, negsuc}
 use lib.Ieee.{Float, nan, inf, fin, binary64, up, down, round, mul, div, neg, fits, le, lt, isNan, size, unlike}
-use lib.Ieee.Fits.{down-pos, up-pos, sub-fits}
+use lib.Ieee.Fits.{down-pos, up-pos, add-fits, sub-fits}
 use lib.Ieee.Digits.{size-lt, size-le, size-reaches}
 use lib.Ieee.Positive.{den, den-pos}
-use Rattle.leaves.specs.Num.{_⊕_, _⊖_, _⊗_, _⊘_, literal, zero64}
+use Rattle.leaves.specs.Num.{_⊕_, _⊖_, _⊗_, _⊘_, literal, zero64, real}
 use Rattle.leaves.specs.Order.{finite, magnitude}
 use Rattle.leaves.specs.Value.{Within, AtLeast, unitsOf}
 use Rattle.leaves.specs.Units.{units-exact}
 use Rattle.leaves.specs.FloatOrder as order
 use Rattle.leaves.specs.FloatOrder.{lt-le, le-or-lt}
 use Rattle.leaves.specs.Fraction.{over, under, plus, less, le→cross}
-use Rattle.leaves.specs.Rounded.{Rounded, rounded-le, sub-rounded}
+use Rattle.leaves.specs.Rounded.{Rounded, rounded-le, sub-rounded, neg-round}
 use Rattle.leaves.specs.Choice.{magnitude-is}
-use Rattle.leaves.specs.WholeLaws.{neg-round}
 use Rattle.leaves.specs.Monotone.{sub-mono, sub-up, at-least-zero}
-use Rattle.leaves.specs.Bounds.{within-finite, within-more, within-neg, within-le, within-magnitude, within-add, within-sub, within-mul, within-div, within-round, within-literal, atleast-le, atleast-above}
+use Rattle.leaves.specs.Bounds.{within-finite, within-more, within-neg, within-le, within-magnitude, within-add, within-sub, within-mul, within-div, within-round, within-literal, within-real, atleast-le, atleast-above}
 use Rattle.seqs.specs.Lists.{each, All}
 use Rattle.seqs.specs.All.{all-map}
 use Rattle.geom.specs.declared.point.P.{P}
 use Rattle.geom.specs.Point.{rotate}
+use Rattle.geom.specs.Limits.{largest}
 use Rattle.rules.specs.declared.Settings.{Settings}
 use Rattle.rules.specs.declared.Edge.{Edge}
 use Rattle.rules.specs.Fill.{sidesTo, sides, edgeOf, keptSide, turned, edges}
@@ -248,10 +248,11 @@ not-lt-le x y p q e = elim (le-or-lt y x q p) [ inl h ↦ h | inr h ↦ absurd (
 
 -- a corner once turned
 abbrev pub Near : P → Type 0
-Near p = Within 19 (p .x) × Within 19 (p .y)
+Near p = Within 19 (p .x) × Within 19 (p .y) × T (fits binary64 (p .y))
 
 -- a kept edge: its numbers, and its run over a part of its height
 pub record Good (e : Edge) : Type 0 where
+  pub fit : T (fits binary64 (e .y0))
   pub y0 : Within 19 (e .y0)
   pub y1 : Within 19 (e .y1)
   pub x0 : Within 19 (e .x0)
@@ -267,6 +268,7 @@ edge-good top bot falls p q a =
     let wd : Within 20 d = within-sub 19 (bot .x) (top .x) (lit≤ tt) (q .0) (p .0) in
     let s = steep d h wd a wh (sub-fits binary64 (bot .y) (top .y)) in
     record {
+      fit = p .2;
       y0 = p .1;
       y1 = q .1;
       x0 = p .0;
@@ -313,8 +315,9 @@ module _ (outline : List (List P)) (g : Settings) (cyc : ℕ) (ok : Checked outl
   pub turn : Within 1 (g .cosine) × Within 1 (g .sine)
   turn = turn-within (g .cosine) (g .sine) (ok .cosine) (ok .sine) (ok .unit)
 
-  small : (x : Float) → T (le (magnitude x) (literal 100000 1)) → Within 17 x
-  small x h = within-le 17 x (literal 100000 1) h (within-literal 17 100000 1 (lit≤ tt) (lit< tt) (lit≤ tt))
+  small : (x : Float) → T (le (magnitude x) largest) → Within 17 x
+  unfolding largest
+  small x h = within-le 17 x (real (pos 100000)) h (within-real 17 (pos 100000) (lit≤ tt) (lit≤ tt))
 
   turned-near : (p : P) → Corner p → Near (rotate p (g .cosine) (neg (g .sine)))
   turned-near p h =
@@ -324,6 +327,7 @@ module _ (outline : List (List P)) (g : Settings) (cyc : ℕ) (ok : Checked outl
       let s = within-neg 1 (g .sine) (turn .1) in (
         within-sub 18 (p .x ⊗ g .cosine) (p .y ⊗ neg (g .sine)) (lit≤ tt) (within-mul 17 1 (p .x) (g .cosine) (lit≤ tt) x c) (within-mul 17 1 (p .y) (neg (g .sine)) (lit≤ tt) y s),
         within-add 18 (p .x ⊗ neg (g .sine)) (p .y ⊗ g .cosine) (lit≤ tt) (within-mul 17 1 (p .x) (neg (g .sine)) (lit≤ tt) x s) (within-mul 17 1 (p .y) (g .cosine) (lit≤ tt) y c),
+        add-fits binary64 (p .x ⊗ neg (g .sine)) (p .y ⊗ g .cosine),
       )
 
   sides-to : (z : P) (l : List P) → Near z → All Near l → All (λ ab. Near (ab .0) × Near (ab .1)) (sidesTo z l)

@@ -14,9 +14,10 @@ use Rattle.leaves.specs.Order.{before, smaller, larger, magnitude}
 use Rattle.leaves.specs.Whole.{floor, ceil}
 use Rattle.seqs.specs.Lists.{upto, keepIf, sift, each, fold, sortBy, byKey}
 use Rattle.geom.specs.declared.point.P.{P}
-use Rattle.geom.specs.Point.{point, rotate, lerp, dist}
+use Rattle.geom.specs.Point.{point, rotate, dist}
 use Rattle.geom.specs.declared.rule.FillRule.{FillRule}
-use Rattle.geom.specs.Winding.{inside, pointInside}
+use Rattle.geom.specs.Steps.{along}
+use Rattle.geom.specs.Inside.{inside, pointInside}
 use Rattle.rules.specs.declared.Settings.{Settings}
 use Rattle.rules.specs.declared.Edge.{Edge}
 use Rattle.rules.specs.declared.Piece.{Piece}
@@ -133,13 +134,19 @@ spans rule w start (c ∷ cs) =
     let now = inside rule (w +ℤ c .1) in
     keepIf (was && not now) (start, x) (spans rule (w +ℤ c .1) (cond (not was && now) x start) cs)
 
+unfoldable pub shrink : Settings → Float
+shrink g = g .inset ⊖ g .pull
+
 -- a piece runs from start + (inset - pull) to end - (inset - pull)
 unfoldable pub pieceOf : Settings → ℤ → Float × Float → Piece
-pieceOf g k ab = record { k = k; y = rowAt g k; xa = ab .0 ⊕ (g .inset ⊖ g .pull); xb = ab .1 ⊖ (g .inset ⊖ g .pull) }
+pieceOf g k ab = record { k = k; y = rowAt g k; xa = ab .0 ⊕ shrink g; xb = ab .1 ⊖ shrink g }
+
+unfoldable pub minRow : Settings → Float
+minRow g = larger (g .spacing ⊗ half) (literal 3 1)
 
 -- and is kept when its width is at least max(spacing·0.5, 3.0)
 unfoldable pub wide : Settings → Piece → Bool
-wide g p = le (larger (g .spacing ⊗ half) (literal 3 1)) (p .xb ⊖ p .xa)
+wide g p = le (minRow g) (p .xb ⊖ p .xa)
 
 -- row k's kept pieces, of the edges at these places
 unfoldable pub piecesAt : FillRule → Settings → List Edge → ℤ → List ℕ → List Piece
@@ -170,7 +177,7 @@ linkEnds o next =
 
 -- point k of four on the way from a to b, turned back, is inside
 unfoldable pub linkInside : List (List P) → FillRule → Settings → P × P → ℕ → Bool
-linkInside rings rule g ab k = pointInside rings rule (rotate (lerp (ab .0) (ab .1) (real (pos k) ⊘ literal 4 1)) (g .cosine) (g .sine))
+linkInside rings rule g ab k = pointInside rings rule (rotate (along (ab .0) (ab .1) 4 k) (g .cosine) (g .sine))
 
 -- three points of the link are inside
 unfoldable pub connects : List (List P) → FillRule → Settings → Entry → Piece → Bool
@@ -255,14 +262,20 @@ remEuclid (negsuc a) n = n - 1 - a % n
 unfoldable pub offset : Settings → ℕ → ℤ → Float
 offset g stagger k = real (pos (remEuclid k (cycle stagger))) ⊗ g .len ⊘ real (pos (cycle stagger))
 
--- the needle points between a row's ends, left to right: from m0 to m1
+unfoldable pub minEnd : Settings → Float
+minEnd g = smaller (g .len ⊗ literal 1 4) (literal 5 1)
+
+-- `((xa + min_end - off) / len).ceil() as i64`
+unfoldable pub m0 : Settings → ℕ → Piece → ℤ
+m0 g stagger p = toSigned 63 (ceil ((p .xa ⊕ minEnd g ⊖ offset g stagger (p .k)) ⊘ g .len))
+
+-- `((xb - min_end - off) / len).floor() as i64`
+unfoldable pub m1 : Settings → ℕ → Piece → ℤ
+m1 g stagger p = toSigned 63 (floor ((p .xb ⊖ minEnd g ⊖ offset g stagger (p .k)) ⊘ g .len))
+
+-- the needle points between a row's ends, left to right: off + m·len, m from m0 to m1
 unfoldable pub needles : Settings → ℕ → Piece → List Float
-needles g stagger p =
-    let off = offset g stagger (p .k) in
-    let minEnd = smaller (g .len ⊗ literal 1 4) (literal 5 1) in
-    let m0 = toSigned 63 (ceil ((p .xa ⊕ minEnd ⊖ off) ⊘ g .len)) in
-    let m1 = toSigned 63 (floor ((p .xb ⊖ minEnd ⊖ off) ⊘ g .len)) in
-    map (λ m. off ⊕ real m ⊗ g .len) (through m0 m1)
+needles g stagger p = map (λ m. offset g stagger (p .k) ⊕ real m ⊗ g .len) (through (m0 g stagger p) (m1 g stagger p))
 
 -- a row's points in the order sewn: forward where its place in the section is even
 unfoldable pub rowPoints : Settings → ℕ → Entry → List P
@@ -271,11 +284,13 @@ rowPoints g stagger e =
     let ps = map (λ x. point x (p .y)) (p .xa ∷ (needles g stagger p ++ (p .xb ∷ []))) in
     cond (eqb (e .nth % 2) 0) ps (reverse ps)
 
--- the points that split the way from p to q into n = ceil(d / len) as usize
+-- n, `(d / len).ceil() as usize`
+unfoldable pub parts : Settings → P → P → ℕ
+parts g p q = toUnsigned 64 (ceil (dist p q ⊘ g .len))
+
+-- the points that split the way from p to q in n
 unfoldable pub between : Settings → P → P → List P
-between g p q =
-    let n = toUnsigned 64 (ceil (dist p q ⊘ g .len)) in
-    map (λ i. lerp p q (real (pos i) ⊘ real (pos n))) (upto 1 (n - 1))
+between g p q = map (along p q (parts g p q)) (upto 1 (parts g p q - 1))
 
 -- from p to each of the points in turn, links between rows as well
 unfoldable pub sewFrom : Settings → P → List P → List P

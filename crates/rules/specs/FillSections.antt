@@ -3,22 +3,21 @@
 -- All of it holds of every fill, accepted or not. Assumes nothing.
 use mathlib.Core.Path.{_≡_, refl, sym, ap, _∙_, subst}
 use mathlib.Core.Bool.{Bool, true, false, cond}
-use mathlib.Core.List.{List, [], _∷_, _++_, map, reverse, reverse-cons, List·Permᴰ, List·Permᴰ·nil, List·Permᴰ·cons, List·Permᴰ·trans, Permᴰ·refl, Permᴰ·append-left, Permᴰ·middle, IsChain, IsChain·nil, IsChain·singleton, IsChain·cons-cons, isChain-cons-cons}
-use mathlib.Core.Logic.{_⊎_, inl, inr, _≢_}
-use Prim.Native.Nat.{ℕ, zero, suc, _+_, _≤_, _<_}
+use mathlib.Core.List.{List, [], _∷_, _++_, map, reverse, reverse-cons, List·Permᴰ, IsChain, IsChain·nil, IsChain·singleton, IsChain·cons-cons, isChain-cons-cons}
+use Prim.Native.Nat.{ℕ, zero, suc, _+_, _<_}
 use native.Mathlib.Numerals.{add-one}
 use native.Mathlib.Omega.{arith}
 use lib.Dec.{eqb}
 use lib.IntN.{ℤ, pos, sucℤ, predℤ, pred-suc, suc-pred, _+ℤ_, +ℤ-sucℤ}
 use lib.Ieee.{Float}
 use lib.ListN.{length, getD, length-append}
-use borrow.Author.Tests.{ne-eqb, eqb-true, eqb-false}
+use borrow.Author.Tests.{ne-eqb}
 use Rattle.leaves.specs.Num.{zero64}
-use Rattle.seqs.specs.Lists.{keepIf, sift, each, upto, All}
-use Rattle.seqs.specs.Tests.{either}
+use Rattle.seqs.specs.Lists.{sift, each, upto, All}
 use Rattle.seqs.specs.All.{all-map, all-append, all-sift}
 use Rattle.seqs.specs.Sift.{sift-append, sift-none}
 use Rattle.seqs.specs.Each.{each-map}
+use Rattle.seqs.specs.Upto.{parts-perm}
 use Rattle.geom.specs.declared.point.P.{P}
 use Rattle.geom.specs.declared.rule.FillRule.{FillRule}
 use Rattle.rules.specs.declared.Settings.{Settings}
@@ -42,20 +41,18 @@ named rule g es k = all-sift (λ p. p .k ≡ k) (wide g) (map (pieceOf g k) ab) 
     made [] = tt
     made (b ∷ l) = (refl, made l)
 
-Down : ℤ → ℤ → Type 0
+abbrev pub Down : ℤ → ℤ → Type 0
 Down a b = b ≡ sucℤ a
 
-Up : ℤ → ℤ → Type 0
+abbrev Up : ℤ → ℤ → Type 0
 Up a b = b ≡ predℤ a
 
 down : (lo : ℤ) (i n : ℕ) → IsChain Down (map (λ i. lo +ℤ pos i) (upto i n))
-unfolding Down
 down lo i zero = IsChain·nil
 down lo i (suc zero) = IsChain·singleton (lo +ℤ pos i)
 down lo i (suc (suc n)) = IsChain·cons-cons (ap (λ j. lo +ℤ pos j) (add-one i) ∙ +ℤ-sucℤ lo (pos i)) (down lo (i + 1) (suc n))
 
 up : (ks : List ℤ) → IsChain Down ks → IsChain Up (reverse ks)
-unfolding Down Up
 up [] h = IsChain·nil
 up (k ∷ []) h = IsChain·singleton k
 up (k ∷ j ∷ ks) h =
@@ -64,7 +61,7 @@ up (k ∷ j ∷ ks) h =
     (chain-snoc Up (reverse ks) j k (rw (reverse-cons j ks) at (up (j ∷ ks) (e .1))) (sym (ap predℤ (e .0) ∙ pred-suc k)))
 
 -- the rows are a run of whole numbers
-rows-down : (g : Settings) (es : List Edge) → IsChain Down (rowNumbers g es)
+pub rows-down : (g : Settings) (es : List Edge) → IsChain Down (rowNumbers g es)
 unfolding rowNumbers through
 rows-down g [] = IsChain·nil
 rows-down g (e ∷ es) = down (kLo g (e ∷ es)) 0 (howMany (kLo g (e ∷ es)) (kHi g (e ∷ es)))
@@ -77,7 +74,7 @@ next bottomUp k = cond bottomUp (predℤ k) (sucℤ k)
 
 module _ (rings : List (List P)) (rule : FillRule) (g : Settings) (bottomUp : Bool) where
   runs : (s : ℕ) → IsChain (Next (next bottomUp)) (section (rowList rings rule g bottomUp) s) × Begins (section (rowList rings rule g bottomUp) s)
-  unfolding rowList met Down Up
+  unfolding rowList met
   runs s = go bottomUp
     where
       go : (b : Bool) → IsChain (Next (next b)) (section (entries rings rule g [] 0 (map (piecesOf rule g (edges g rings)) (cond b (reverse (rowNumbers g (edges g rings))) (rowNumbers g (edges g rings))))) s) × Begins (section (entries rings rule g [] 0 (map (piecesOf rule g (edges g rings)) (cond b (reverse (rowNumbers g (edges g rings))) (rowNumbers g (edges g rings))))) s)
@@ -103,37 +100,6 @@ module _ (rings : List (List P)) (rule : FillRule) (g : Settings) (bottomUp : Bo
       go (e ∷ l) h b = λ i. b i ∷ (on e l h ∙ ap (λ j. upto (j + 1) (length l)) b) i
 
 -- ---- each piece in one section, once
-
-module _ {A : Type 0} (key : A → ℕ) where
-  abbrev part : List A → ℕ → List A
-  part l s = sift (λ a. eqb (key a) s) l
-
-  -- past t, adding a to the part t changes nothing
-  untouched : (f : ℕ → List A) (a : A) (t i n : ℕ) → t < i → each (λ s. keepIf (eqb t s) a (f s)) (upto i n) ≡ each f (upto i n)
-  untouched f a t i zero h = refl
-  untouched f a t i (suc n) h = rw (ne-eqb t i (λ z. omega arith)) (ap (λ r. f i ++ r) (untouched f a t (i + 1) n (omega arith)))
-
-  placed : (f : ℕ → List A) (a : A) (t i n : ℕ) → i ≤ t → t < i + n → List·Permᴰ (each (λ s. keepIf (eqb t s) a (f s)) (upto i n)) (a ∷ each f (upto i n))
-  placed f a t i zero h k = absurd (omega arith)
-  placed f a t i (suc n) h k = go (either (eqb t i)) (placed f a t (i + 1) n)
-    where
-      go : (eqb t i ≡ true) ⊎ (eqb t i ≡ false) → (i + 1 ≤ t → t < i + 1 + n → List·Permᴰ (each (λ s. keepIf (eqb t s) a (f s)) (upto (i + 1) n)) (a ∷ each f (upto (i + 1) n)))
-          → List·Permᴰ (each (λ s. keepIf (eqb t s) a (f s)) (upto i (suc n))) (a ∷ each f (upto i (suc n)))
-      go (inl e) ih =
-          let z : t ≡ i = eqb-true t i e in
-          rw (e, untouched f a t (i + 1) n (omega arith)) (Permᴰ·refl (a ∷ (f i ++ each f (upto (i + 1) n))))
-      go (inr e) ih =
-          let d : t ≢ i = eqb-false t i e in
-          rw e (List·Permᴰ·trans (Permᴰ·append-left (f i) (ih (omega arith) (omega arith))) (Permᴰ·middle a (f i) (each f (upto (i + 1) n))))
-
-  nothing : (i n : ℕ) → each (λ s. sift (λ a. eqb (key a) s) []) (upto i n) ≡ []
-  nothing i zero = refl
-  nothing i (suc n) = nothing (i + 1) n
-
-  -- the parts by key, one after another, are the list in another order
-  pub parts : (n : ℕ) (l : List A) → All (λ a. key a < n) l → List·Permᴰ (each (part l) (upto 0 n)) l
-  parts n [] h = rw (nothing 0 n) List·Permᴰ·nil
-  parts n (a ∷ l) h = List·Permᴰ·trans (placed (part l) a (key a) 0 n (omega arith) (omega (arith, h .0))) (List·Permᴰ·cons refl (parts n l (h .1)))
 
 module _ (rings : List (List P)) (rule : FillRule) (g : Settings) where
   begun-append : (l m : List Entry) → begun (l ++ m) ≡ begun l + begun m
@@ -170,7 +136,7 @@ module _ (rings : List (List P)) (rule : FillRule) (g : Settings) where
     unfolding sections section
     sections-part =
         rw (each-map (section (rowList rings rule g bottomUp)) (upto 0 (begun (rowList rings rule g bottomUp))))
-        (parts (λ e. e .section) (begun (rowList rings rule g bottomUp)) (rowList rings rule g bottomUp) numbers-below)
+        (parts-perm (λ e. e .section) (begun (rowList rings rule g bottomUp)) (rowList rings rule g bottomUp) numbers-below)
 
     -- "in its order and under its section numbers": what is sewn as section s is what the list has under s, in the list's order
     pub section-at : (s : ℕ) → getD (sections (rowList rings rule g bottomUp)) s [] ≡ section (rowList rings rule g bottomUp) s

@@ -21,6 +21,7 @@ use Rattle.geom.specs.declared.rule.FillRule.{FillRule}
 use Rattle.rules.specs.declared.Settings.{Settings}
 use Rattle.rules.specs.declared.Piece.{Piece}
 use Rattle.rules.specs.declared.Entry.{Entry}
+use Rattle.rules.specs.Alls.{map-append}
 use Rattle.rules.specs.Fill.{overlap, connects, only, joined, joins, entry, after, rowEntries, begun, entries, section}
 
 -- ---- lists
@@ -47,10 +48,6 @@ Begins (e ∷ l) = e .nth ≡ 0
 begins-snoc : (l : List Entry) (a e : Entry) → Begins (l ++ (a ∷ [])) → Begins ((l ++ (a ∷ [])) ++ (e ∷ []))
 begins-snoc [] a e h = h
 begins-snoc (b ∷ l) a e h = h
-
-map-append : {A B : Type 0} (f : A → B) (l m : List A) → map f (l ++ m) ≡ map f l ++ map f m
-map-append f [] m = refl
-map-append f (a ∷ l) m = ap (λ r. f a ∷ r) (map-append f l m)
 
 -- e comes right after o in a section that goes with `step` from row to row
 pub record Next (step : ℤ → ℤ) (o e : Entry) : Type 0 where

@@ -6,7 +6,8 @@ use lib.IntN.{ℤ}
 use lib.Ieee.{Float, le}
 use lib.ListN.{length}
 use mathlib.Core.List.{List·Permᴰ}
-use Rattle.seqs.specs.Lists.{sift, takeWhile, dropWhile, sortBy, upto, Sorted}
+use Rattle.leaves.specs.Order.{before}
+use Rattle.seqs.specs.Lists.{sift, takeWhile, dropWhile, sortBy, byKey, upto, Sorted}
 use Rattle.geom.specs.declared.rule.FillRule.{FillRule}
 use Rattle.rules.specs.declared.Settings.{Settings}
 use Rattle.rules.specs.declared.Edge.{Edge}
@@ -33,3 +34,7 @@ sweptBy order rule g es active waiting (k ∷ ks) =
     let y = rowAt g k in
     let now = order y (sift (lives es y) active ++ sift (lives es y) (takeWhile (starts es y) waiting)) in
     piecesAt rule g es k now ∷ sweptBy order rule g es now (dropWhile (starts es y) waiting) ks
+
+-- one such order: by y0 in total order, and where it is equal by place
+unfoldable pub byStart : List Edge → List ℕ
+byStart es = sortBy (byKey before (λ i. edge es i .y0)) (upto 0 (length es))

@@ -90,7 +90,7 @@ module _ (rule : FillRule) (g : Settings) (es : List Edge) (Fair : ℤ → Type 
       IsChain·cons-cons (below (k, h .0) (j, h .1 .0) (subst (λ i. T (le (rowAt g k) (rowAt g i))) (sym (e .0)) (falls k (h .0) (subst Fair (e .0) (h .1 .0)))))
       (rows-below (j ∷ ks) (h .1) (e .1))
 
-  earlier : (waiting : List ℕ) → InOrder es waiting → Sorted (Earlier begun going) waiting
+  earlier : (waiting : List ℕ) → InOrder es waiting → Sorted (Earlier begun) waiting
   unfolding begun starts
   earlier waiting w = sorted-map (λ i j h r t. is-true (le (edge es i .y0) (y-of r)) (le-trans (edge es i .y0) (edge es j .y0) (y-of r) h (so t))) waiting (w .rising)
 

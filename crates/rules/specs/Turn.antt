@@ -6,16 +6,16 @@ use native.Mathlib.Nat.{le-of-lt, mul-pos, mul-le-mul}
 use native.Mathlib.Omega.{arith}
 use lib.Dec.{T, ltb, ltb→lt, nltb→le, lit<, lit≤}
 use lib.IntN.{pos}
-use lib.Ieee.{Float, nan, inf, fin, binary64, up, down, round, add, fits, le}
+use lib.Ieee.{Float, nan, inf, fin, binary64, up, down, round, add, le}
 use lib.Ieee.Fits.{down-pos, mul-fits}
-use lib.Ieee.Positive.{den-pos}
-use Rattle.leaves.specs.Num.{_⊕_, _⊗_, literal, zero64}
+use Rattle.leaves.specs.Num.{_⊕_, _⊗_, literal}
 use Rattle.leaves.specs.Order.{finite}
 use Rattle.leaves.specs.Value.{Within}
 use Rattle.leaves.specs.FloatOrder.{le-trans}
 use Rattle.leaves.specs.Fraction.{over, under}
-use Rattle.leaves.specs.Rounded.{Rounded, rounded-le, mul-rounded, add-rounded, own-rounded}
-use Rattle.leaves.specs.Monotone.{add-up, square-up, at-least-zero}
+use Rattle.leaves.specs.Rounded.{Rounded, rounded-le, mul-rounded}
+use Rattle.leaves.specs.Commute.{⊕-comm}
+use Rattle.leaves.specs.Monotone.{add-up, square-up}
 use Rattle.leaves.specs.Bounds.{within-finite, within-between, within-literal}
 use Rattle.rules.specs.Accepted.{Range}
 
@@ -67,12 +67,6 @@ root-within (fin s m e) f h = go (ltb (2 * down e) (m * up e)) (ltb→lt (2 * do
     go true f g = absurd (big (f tt))
     go false f g = g tt
 
--- a sum with what is not below zero, on the left
-add-up-left : (s l : Float) → T (fits binary64 s) → T (finite s) → T (finite l) → T (le zero64 l) → T (le s (l ⊕ s))
-add-up-left s l q f g p =
-    let z = at-least-zero l g p in
-    rounded-le (own-rounded s f q) (rw z at (add-rounded l s g f)) (den-pos s) (mul-pos (den-pos l) (den-pos s)) (omega arith)
-
 pub turn-within : (c s : Float) → T (finite c) → T (finite s) → Range (literal 999999 1000000) (literal 1000001 1000000) (c ⊗ c ⊕ s ⊗ s) → Within 1 c × Within 1 s
 turn-within c s f g r =
     let lo = literal 999999 1000000 in
@@ -80,6 +74,6 @@ turn-within c s f g r =
     let sum = c ⊗ c ⊕ s ⊗ s in
     let near = within-between 1 lo sum hi (r .least) (r .most) (within-literal 1 999999 1000000 (lit≤ tt) (lit< tt) (lit≤ tt)) (within-literal 1 1000001 1000000 (lit≤ tt) (lit< tt) (lit≤ tt)) in
     let q = sum-finite (c ⊗ c) (s ⊗ s) (within-finite 1 sum near) in (
-      root-within c f (le-trans (c ⊗ c) sum hi (add-up (c ⊗ c) (s ⊗ s) (mul-fits binary64 c c) (q .0) (q .1) (square-up s g)) (r .most)),
-      root-within s g (le-trans (s ⊗ s) sum hi (add-up-left (s ⊗ s) (c ⊗ c) (mul-fits binary64 s s) (q .1) (q .0) (square-up c f)) (r .most)),
+      root-within c f (le-trans (c ⊗ c) sum hi (add-up (c ⊗ c) (s ⊗ s) (mul-fits binary64 c c) (q .0) (square-up s g)) (r .most)),
+      root-within s g (le-trans (s ⊗ s) sum hi (rw (⊕-comm (c ⊗ c) (s ⊗ s)) (add-up (s ⊗ s) (c ⊗ c) (mul-fits binary64 s s) (q .1) (square-up c f))) (r .most)),
     )

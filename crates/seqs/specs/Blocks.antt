@@ -1,19 +1,26 @@
 -- A table of records in a slice, in blocks of w numbers. Assumes nothing.
-use mathlib.Core.Path.{_≡_, refl, sym, ap, _∙_}
+use mathlib.Core.Path.{_≡_, refl, ap, _∙_}
 use mathlib.Core.List.{List, [], _∷_, _++_, append-assoc}
 use Prim.Native.Nat.{ℕ, zero, suc, _+_, _*_, _≤_, _<_}
-use native.Mathlib.Nat.{mul-zero}
+use native.Mathlib.Nat.{mul-zero, mul-le-mul-left}
 use native.Mathlib.Omega.{arith}
 use lib.ListN.{length, getD, take, drop, set, List·getD-eq-default}
-use lib.Seq.{length-take-le, drop-drop, getD-take, getD-drop, take-at, drop-at, take-set-lt, take-set-le, drop-set-lt, drop-set-add}
+use lib.Seq.{length-take-le, drop-drop, drop-cons, take-at, drop-at, take-set-lt, take-set-le, drop-set-lt, drop-set-add}
 use Rattle.seqs.specs.Lists.{each}
-use Rattle.seqs.specs.Slices.{Wrote, blocks}
+use Rattle.seqs.specs.Slices.{Wrote, readsFrom, reads, blocks}
+use Rattle.seqs.specs.Front.{next}
 use Rattle.seqs.specs.Reads.{part-on, take-on}
 use Rattle.seqs.specs.Each.{each-length}
 
--- number j of block i, as the code reads it
-pub block-read {ℓ} : {A : Type ℓ} (w : ℕ) (l : List A) (i j : ℕ) (z : A) → j < w → getD (take w (drop (w * i) l)) j z ≡ getD l (w * i + j) z
-block-read w l i j z h = getD-take w (drop (w * i) l) j z h ∙ getD-drop (w * i) l j z
+-- a part that lies within the list, as the code reads it
+module _ {ℓ} {A : Type ℓ} (l : List A) (z : A) where
+  reads-from : (k j n : ℕ) → k + j + n ≤ length l → take n (drop (k + j) l) ≡ readsFrom l z k j n
+  reads-from k j zero h = refl
+  reads-from k j (suc n) h = let e : suc (k + j) ≡ k + suc j = omega arith in rw (drop-cons l (k + j) z (omega arith), e) (ap (λ r. getD l (k + j) z ∷ r) (reads-from k (suc j) n (omega arith)))
+
+  pub part-reads : (k n : ℕ) → k + n ≤ length l → take n (drop k l) ≡ reads l z k n
+  part-reads k zero h = refl
+  part-reads k (suc n) h = rw (next l k z (omega arith)) (ap (λ r. getD l k z ∷ r) (reads-from k 1 n (omega arith)))
 
 module _ {ℓ κ} {A : Type ℓ} {B : Type κ} (w : ℕ) (dec : List A → B) where
   pub blocks-length : (n : ℕ) (l : List A) → length (blocks w dec n l) ≡ n
@@ -30,6 +37,11 @@ module _ {ℓ κ} {A : Type ℓ} {B : Type κ} (w : ℕ) (dec : List A → B) wh
 
   pub blocks-past : (n : ℕ) (l : List A) (i : ℕ) (z : B) → n ≤ i → getD (blocks w dec n l) i z ≡ z
   blocks-past n l i z h = List·getD-eq-default (blocks w dec n l) z (omega (arith, blocks-length n l))
+
+  pub blocks-read : (n : ℕ) (l : List A) (x : A) (i : ℕ) (z : B) → i < n → w * n ≤ length l → getD (blocks w dec n l) i z ≡ dec (reads l x (w * i) w)
+  blocks-read n l x i z h k =
+      let g : w * suc i ≤ w * n = mul-le-mul-left w h in
+      blocks-at n l i z h ∙ ap dec (part-reads l x (w * i) w (omega arith))
 
   -- the first k numbers are kept, and so is a table that lies there
   pub blocks-kept : (n k : ℕ) (l m : List A) → w * n ≤ k → take k l ≡ take k m → blocks w dec n l ≡ blocks w dec n m

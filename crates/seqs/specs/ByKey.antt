@@ -1,5 +1,5 @@
 -- Places ordered by keys, and where keys are equal by place: a strict order. Assumes nothing.
-use mathlib.Core.Path.{_≡_, refl, sym, ap, _∙_}
+use mathlib.Core.Path.{_≡_, refl, _∙_}
 use mathlib.Core.Bool.{Bool, true, false, cond}
 use mathlib.Core.Logic.{_⊎_, inl, inr}
 use Prim.Native.Nat.{ℕ, _≤_}
@@ -7,7 +7,7 @@ use native.Mathlib.Omega.{arith}
 use lib.Dec.{leb}
 use borrow.Author.Tests.{leb-true, leb-false, le-leb}
 use Rattle.seqs.specs.Lists.{byKey, Keyed, Strict}
-use Rattle.seqs.specs.Tests.{either, clash, refute}
+use Rattle.seqs.specs.Tests.{clash, refute}
 
 module _ {ℓ} {B : Type ℓ} (before : B → B → Bool) (key : ℕ → B) (o : Keyed before key) where
   -- the key is before the other, or they are equal and the place is not behind

@@ -12,6 +12,7 @@ upto i zero = []
 upto i (suc n) = i ∷ upto (i + 1) n
 
 module _ {ℓ} {A : Type ℓ} where
+  -- with a in front where the test held
   abbrev pub keepIf : Bool → A → List A → List A
   keepIf true a l = a ∷ l
   keepIf false a l = l
@@ -54,6 +55,7 @@ module _ {ℓ} {A : Type ℓ} where
   insertBy le a [] = a ∷ []
   insertBy le a (b ∷ l) = cond (le a b) (a ∷ b ∷ l) (b ∷ insertBy le a l)
 
+  -- each put into the sort of those behind it
   abbrev pub sortBy : (A → A → Bool) → List A → List A
   sortBy le [] = []
   sortBy le (a ∷ l) = insertBy le a (sortBy le l)
@@ -77,6 +79,7 @@ sweepBy starts lives order active waiting (y ∷ ys) =
 -- ---- what holds of a list
 
 module _ {ℓ κ} {A : Type ℓ} where
+  -- P of each
   abbrev pub All : (A → Type κ) → List A → Type κ
   All P [] = Unit {κ}
   All P (a ∷ l) = P a × All P l
@@ -87,6 +90,7 @@ module _ {ℓ κ} {A : Type ℓ} where
   Sorted R (a ∷ l) = All (R a) l × Sorted R l
 
 module _ {ℓ} {A : Type ℓ} where
+  -- no element stands before one that it may not stand before
   abbrev pub Ordered : (A → A → Bool) → List A → Type 0
   Ordered le l = Sorted (λ a b. le a b ≡ true) l
 
@@ -101,7 +105,7 @@ module _ {ℓ} {A : Type ℓ} where
     pub perm : (l : List A) → List·Permᴰ (f l) l
     pub same : {l m : List A} → List·Permᴰ l m → f l ≡ f m
 
--- no two keys before each other, and keys level only where they are one
+-- `before` orders these keys: never both ways, transitive, and neither way only where two keys are one
 pub record Keyed {ℓ} {B : Type ℓ} (before : B → B → Bool) (key : ℕ → B) : Type ℓ where
   pub one-way : (i j : ℕ) → before (key i) (key j) ≡ true → before (key j) (key i) ≡ false
   pub trans : (i j k : ℕ) → before (key i) (key j) ≡ true → before (key j) (key k) ≡ true → before (key i) (key k) ≡ true

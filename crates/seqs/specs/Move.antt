@@ -8,8 +8,8 @@ use native.Mathlib.Omega.{arith}
 use lib.ListN.{length, take, drop, getD, set, length-set}
 use lib.Seq.{take-suc-set, drop-set-lt}
 use Rattle.seqs.specs.Front.{next}
-use Rattle.seqs.specs.Lists.{keepIf}
-use Rattle.seqs.specs.Reads.{drop-on}
+use Rattle.seqs.specs.Lists.{keepIf, sift}
+use Rattle.seqs.specs.Reads.{drop-on, part-next}
 
 -- d₀ as it came, d as it is now; `rest` is what will still be kept of `whole`
 pub record Move {ℓ} {A : Type ℓ} (d₀ d : List A) (i j : ℕ) (rest whole : List A) : Type ℓ where
@@ -50,6 +50,10 @@ module _ {ℓ} {A : Type ℓ} where
 
   pub move-passed : {d₀ d : List A} {i j : ℕ} {l : List A} (rest : List A) {whole : List A} (z : A) {b : Bool} → l ≡ keepIf b (getD d₀ i z) rest → b ≡ false → Move d₀ d i j l whole → i < length d → Move d₀ d (i + 1) j rest whole
   move-passed rest z e t f h = move-skip (move-at (e ∙ rw t) f) h
+
+  -- a turn of a loop that sifts the first n
+  pub sift-next : (p : A → Bool) (d : List A) (n i : ℕ) (z : A) → i < n → n ≤ length d → sift p (drop i (take n d)) ≡ keepIf (p (getD d i z)) (getD d i z) (sift p (drop (i + 1) (take n d)))
+  sift-next p d n i z h k = rw (part-next d n i z h k)
 
   pub move-end : {d₀ d : List A} {i j : ℕ} {whole : List A} → Move d₀ d i j [] whole → take j d ≡ whole
   move-end {d = d} {j = j} f = sym (append-nil (take j d)) ∙ f .done

@@ -9,12 +9,12 @@ use lib.ListN.{length, getD, take, drop, length-drop}
 use lib.Seq.{length-take-le, slice-cons, drop-drop, drop-length, drop-nil, take-nil, getD-take, take-take}
 use Rattle.seqs.specs.Front.{next, none}
 
--- what is left of a count that runs up to n
-pub left : (n i : ℕ) → i < n → n - i ≡ suc (n - (i + 1))
-left n i h = omega arith
+-- what is left of a count from i up to n
+pub fuel-more : (n i : ℕ) → i < n → n - i ≡ suc (n - (i + 1))
+fuel-more n i h = omega arith
 
-pub left-none : (n i : ℕ) → n ≤ i → n - i ≡ 0
-left-none n i h = omega arith
+pub fuel-none : (n i : ℕ) → n ≤ i → n - i ≡ 0
+fuel-none n i h = omega arith
 
 module _ {ℓ} {A : Type ℓ} where
   -- two at a time, and where fewer are left
@@ -56,6 +56,12 @@ module _ {ℓ} {A : Type ℓ} where
     drop-on j k h e =
         let s : j + (k - j) ≡ k = omega arith in
         rw s at (sym (drop-drop (k - j) j l) ∙ ap (drop (k - j)) e ∙ drop-drop (k - j) j m)
+
+  -- within the list the default doesn't matter
+  pub read-any : (l : List A) (i : ℕ) (y z : A) → i < length l → getD l i y ≡ getD l i z
+  read-any [] i y z h = absurd (omega arith)
+  read-any (a ∷ l) zero y z h = refl
+  read-any (a ∷ l) (suc i) y z h = read-any l i y z (omega arith)
 
   -- a front as long as the slice is all of it
   pub whole : (m d : List A) → length m ≡ length d → m ++ drop (length m) d ≡ m

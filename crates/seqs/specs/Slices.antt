@@ -4,7 +4,7 @@ use mathlib.Core.Bool.{cond}
 use mathlib.Core.List.{List, [], _∷_, _++_}
 use Prim.Native.Nat.{ℕ, zero, suc, _+_, _≤_}
 use lib.Dec.{leb}
-use lib.ListN.{length, take, drop, set}
+use lib.ListN.{length, take, drop, set, getD}
 
 -- a count that stops one past the cap
 unfoldable pub capped : ℕ → ℕ → ℕ
@@ -29,6 +29,15 @@ module _ {ℓ} {A : Type ℓ} where
   abbrev pub stores : List A → ℕ → List A → List A
   stores d k [] = d
   stores d k (a ∷ m) = storesFrom (set d k a) k 1 m
+
+  -- n read at k, k + 1, ..: where n is a numeral, the reads themselves
+  abbrev pub readsFrom : List A → A → ℕ → ℕ → ℕ → List A
+  readsFrom d z k j zero = []
+  readsFrom d z k j (suc n) = getD d (k + j) z ∷ readsFrom d z k (suc j) n
+
+  abbrev pub reads : List A → A → ℕ → ℕ → List A
+  reads d z k zero = []
+  reads d z k (suc n) = getD d k z ∷ readsFrom d z k 1 n
 
 -- a table of n records in blocks of w numbers, each read by `dec`
 unfoldable pub blocks {ℓ κ} : {A : Type ℓ} {B : Type κ} → ℕ → (List A → B) → ℕ → List A → List B

@@ -3,9 +3,9 @@ use mathlib.Core.Path.{_≡_, refl, sym, ap, _∙_}
 use mathlib.Core.Bool.{Bool, true, false, _&&_, cond}
 use mathlib.Core.Logic.{inl, inr}
 use mathlib.Core.List.{List, [], _∷_, _++_, append-nil, List·Permᴰ, List·Permᴰ·nil, List·Permᴰ·cons, List·Permᴰ·swap, List·Permᴰ·trans, Permᴰ·refl, Permᴰ·symm, Permᴰ·middle, Permᴰ·append-left}
-use Prim.Native.Nat.{ℕ, suc}
+use Prim.Native.Nat.{suc}
 use lib.ListN.{length}
-use Rattle.seqs.specs.Lists.{sift, every, fold, insertBy, insertBack, sortBy, All, Sorted, Ordered, Strict, Sorts}
+use Rattle.seqs.specs.Lists.{sift, every, fold, insertBy, insertBack, sortBy, All, Ordered, Strict, Sorts}
 use Rattle.seqs.specs.Tests.{either, clash, refute}
 use Rattle.seqs.specs.All.{all-map, all-perm, sorted-sift}
 use Rattle.seqs.specs.Each.{all-every}

@@ -12,14 +12,14 @@ use Rattle.seqs.specs.Lists.{upto, keepIf, sift, each, All}
 use Rattle.seqs.specs.Tests.{either}
 use Rattle.seqs.specs.All.{all-map}
 use Rattle.seqs.specs.Sift.{sift-append, sift-none}
-use Rattle.seqs.specs.Reads.{left, left-none}
+use Rattle.seqs.specs.Reads.{fuel-more, fuel-none}
 
 -- the numbers from i up to n
 pub upto-next : (n i : ℕ) → i < n → upto i (n - i) ≡ i ∷ upto (i + 1) (n - (i + 1))
-upto-next n i h = rw (left n i h)
+upto-next n i h = rw (fuel-more n i h)
 
 pub upto-none : (n i : ℕ) → n ≤ i → upto i (n - i) ≡ []
-upto-none n i h = rw (left-none n i h)
+upto-none n i h = rw (fuel-none n i h)
 
 pub upto-length : (i n : ℕ) → length (upto i n) ≡ n
 upto-length i zero = refl
@@ -44,6 +44,14 @@ upto-jump p n j k h g f =
     let e : n - j ≡ k - j + (n - k) = omega arith in
     let s : j + (k - j) ≡ k = omega arith in
     rw (e, upto-append j (k - j) (n - k), s, sift-append p (upto j (k - j)) (upto k (n - k)), sift-none p (upto j (k - j)) (all-map (λ t b. f t (b .0) (omega (arith, b))) (upto j (k - j)) (upto-all j (k - j))))
+
+-- a turn of a loop that sifts the numbers up to n
+module _ (p : ℕ → Bool) (n i : ℕ) (h : i < n) where
+  pub upto-kept : p i ≡ true → sift p (upto i (n - i)) ≡ i ∷ sift p (upto (i + 1) (n - (i + 1)))
+  upto-kept e = rw (upto-next n i h, e)
+
+  pub upto-passed : p i ≡ false → sift p (upto i (n - i)) ≡ sift p (upto (i + 1) (n - (i + 1)))
+  upto-passed e = rw (upto-next n i h, e)
 
 -- ---- the parts of a list, one for each number below n, are the list in another order
 

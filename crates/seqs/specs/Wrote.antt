@@ -1,12 +1,12 @@
 -- Writing a list in parts, from some place on, with or without room for it. Assumes nothing.
 use mathlib.Core.Path.{_≡_, refl, sym, ap, _∙_, subst}
-use mathlib.Core.List.{List, [], _∷_, _++_, append-nil}
-use Prim.Native.Nat.{ℕ, zero, suc, _+_, _≤_, _<_}
+use mathlib.Core.List.{List, [], _∷_, _++_}
+use Prim.Native.Nat.{ℕ, suc, _+_, _≤_, _<_}
 use native.Mathlib.Numerals.{add-one}
 use native.Mathlib.Omega.{arith}
-use lib.ListN.{length, take, drop, set, length-append, take-append-drop}
+use lib.ListN.{length, take, set, length-append}
 use lib.Seq.{length-take-le, take-set-le, sets, sets-eq, length-sets}
-use Rattle.seqs.specs.Front.{Front, front-from, front-end, front-at, front-count, block-front}
+use Rattle.seqs.specs.Front.{Front, front-from, front-end, front-count, block-front}
 use Rattle.seqs.specs.Slices.{Wrote, Put, storesFrom, stores}
 use Rattle.seqs.specs.Reads.{take-on}
 
@@ -58,7 +58,10 @@ module _ {ℓ} {A : Type ℓ} where
   pub wrote-put : {d d′ : List A} {k : ℕ} {m : List A} → Wrote d d′ k m → k + length m ≤ length d → Put d d′ k m
   wrote-put {d} {k = k} {m = m} w h = rw (head-length d m k (omega arith)) (w .is h)
 
-  -- the last turn of a writer that starts at k
+  -- a writer that starts at k: the room that `front-room-block` asks for, and the last turn
+  pub put-room : (d m : List A) (k : ℕ) → k + length m ≤ length d → length (take k d ++ m) ≤ length d
+  put-room d m k h = omega (arith, head-length d m k (omega arith))
+
   pub put-end : {d₀ d : List A} {n : ℕ} (m : List A) (k : ℕ) → k ≤ length d₀ → Front d₀ d n [] (take k d₀ ++ m) → Put d₀ d k m × (n ≡ k + length m)
   put-end {d₀} m k h f = (front-end f, omega (arith, front-count f, head-length d₀ m k h))
 

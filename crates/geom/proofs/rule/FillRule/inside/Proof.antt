@@ -5,7 +5,7 @@ use lib.IntN.{ℤ, pos, natAbs}
 use lib.Signed.{remZ, quotZ}
 use mir.Syntax.{w64}
 use mir.ValLaws.{toZ-ofZ}
-use Rattle.geom.specs.Winding.{inside}
+use Rattle.geom.specs.Inside.{inside}
 use Rattle.geom.proofs.Parity.{zero-bits, rem-bits, quot-fits}
 use borrow.Author.Needs.{needs}
 use Rattle.geom.proofs.rule.FillRule.inside.Statement.{statement}

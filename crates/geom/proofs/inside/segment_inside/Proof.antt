@@ -1,0 +1,45 @@
+use mathlib.Core.Path.{_≡_, sym, _∙_, ap}
+use mathlib.Core.Bool.{true, false, _&&_}
+use Prim.Native.Nat.{ℕ, _+_, _-_, _≤_, _<_}
+use Rattle.geom.specs.Outline.{rings}
+use Rattle.geom.specs.Inside.{pointInside, stepsInside, segmentInside}
+use Rattle.geom.proofs.Loops.{steps-next, steps-end}
+use borrow.Author.Needs.{needs}
+use Rattle.geom.proofs.inside.segment_inside.Statement.{statement}
+use Rattle.geom.proofs.inside.segment_inside.Tie as tie
+
+abbrev Inv-loop : tie.InvT-loop
+Inv-loop corners ends rule a b step n i₀ i = (1 ≤ i) × (stepsInside (rings corners ends) rule a b n i (n - i) ≡ segmentInside (rings corners ends) rule a b step)
+
+abbrev μ-loop : tie.MeasureT-loop
+μ-loop corners ends rule a b step n i₀ i = n - i
+
+loop-holds : tie.Need-loop-holds Inv-loop μ-loop
+unfolding segmentInside
+loop-holds c =
+    let e = rw (c .before .dist .ensures) at (c .steps .ensures) in
+    (search needs, ap (λ (m : ℕ). stepsInside (rings (c .before .before .before .before .args .corners .now) (c .before .before .before .before .args .ends .now)) (c .before .before .before .before .args .rule) (c .before .before .before .before .args .a) (c .before .before .before .before .args .b) m 1 (m - 1)) e)
+
+loop-again : tie.Need-loop-again Inv-loop μ-loop
+loop-again c =
+    let a = c .before .before .before .before .before .before .before .before .before .args in
+    let l = c .before .before .before .before .loop in
+    let q = rw (sym (rw (c .before .before .along .ensures) at (c .before .point-inside .ensures)) ∙ c .if1 .taken) at (steps-next (rings (a .corners .now) (a .ends .now)) (a .rule) (a .a) (a .b) (c .before .before .before .before .before .steps .result) (l .i) (search needs)) in
+    (search needs, sym q ∙ l .inv .1)
+
+returns : tie.Need-returns Inv-loop μ-loop
+returns c =
+    let a = c .before .before .before .before .before .before .before .before .before .args in
+    let l = c .before .before .before .before .loop in
+    let q = rw (sym (rw (c .before .before .along .ensures) at (c .before .point-inside .ensures)) ∙ c .if1 .left) at (steps-next (rings (a .corners .now) (a .ends .now)) (a .rule) (a .a) (a .b) (c .before .before .before .before .before .steps .result) (l .i) (search needs)) in
+    sym q ∙ l .inv .1
+
+returns-2 : tie.Need-returns-2 Inv-loop μ-loop
+returns-2 c =
+    let a = c .before .before .before .before .before .before .args in
+    let l = c .before .loop in
+    sym (steps-end (rings (a .corners .now) (a .ends .now)) (a .rule) (a .a) (a .b) (c .before .before .steps .result) (l .i) (search needs)) ∙ l .inv .1
+
+pub segment-inside-spec : {M : Type 1} → statement M
+segment-inside-spec =
+    tie.close (tie.spec Inv-loop μ-loop (λ c κs. search needs) (λ c κs. search needs) loop-holds (λ c κs. search needs) (λ c κs. search needs) (λ c. search needs) (λ c. search needs) loop-again returns returns-2)

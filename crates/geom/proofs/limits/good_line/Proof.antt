@@ -1,0 +1,17 @@
+use borrow.Author.Tests.{eq-eqb, ne-eqb}
+use Rattle.geom.specs.Limits.{goodLine}
+use borrow.Author.Needs.{needs}
+use Rattle.geom.proofs.limits.good_line.Statement.{statement}
+use Rattle.geom.proofs.limits.good_line.Tie as tie
+
+returns : tie.Need-returns
+unfolding goodLine
+returns c = rw (ne-eqb _ _ (c .if1 .taken))
+
+returns-2 : tie.Need-returns-2
+unfolding goodLine
+returns-2 c = rw (eq-eqb _ _ (c .if1 .left))
+
+pub good-line-spec : {M : Type 1} → statement M
+good-line-spec =
+    tie.close (tie.spec returns returns-2)
