@@ -1,6 +1,5 @@
 -- Laws of the edge table. Assumes nothing.
 use Prim.Native.Nat.{ℕ, _+_, _*_, _≤_, _<_}
-use native.Mathlib.Nat.{add-zero}
 use native.Mathlib.Omega.{arith}
 use mathlib.Core.Path.{_≡_, refl, sym, ap, _∙_}
 use mathlib.Core.Bool.{Bool, true, false}
@@ -12,7 +11,7 @@ use Rattle.seqs.specs.Lists.{each}
 use Rattle.seqs.specs.Slices.{Wrote, blocks}
 use Rattle.seqs.specs.Records.{Added}
 use Rattle.seqs.specs.Each.{each-length}
-use Rattle.seqs.specs.Blocks.{block-read, blocks-length, blocks-at, blocks-past, blocks-kept, blocks-back}
+use Rattle.seqs.specs.Blocks.{blocks-length, blocks-read, blocks-past, blocks-kept, blocks-back}
 use Rattle.rules.specs.declared.Edge.{Edge}
 use Rattle.rules.specs.Fill.{edge, noEdge}
 use Rattle.edges.specs.Table.{direction, edgeBlock, blockEdge, edgePlace, edgesIn}
@@ -38,12 +37,10 @@ unfolding edgesIn
 in-length n l = blocks-length 5 blockEdge n l
 
 -- edge i, as the code reads it
-pub in-read : (n : ℕ) (l : List Float) (i : ℕ) → i < n
+pub in-read : (n : ℕ) (l : List Float) (i : ℕ) → i < n → 5 * n ≤ length l
     → edge (edgesIn n l) i ≡ record { y0 = getD l (5 * i) nan; y1 = getD l (5 * i + 1) nan; x0 = getD l (5 * i + 2) nan; dxdy = getD l (5 * i + 3) nan; falls = lt zero64 (getD l (5 * i + 4) nan) }
 unfolding edgesIn
-in-read n l i h =
-    blocks-at 5 blockEdge n l i noEdge h
-    ∙ rw (block-read 5 l i 0 nan (omega arith), block-read 5 l i 1 nan (omega arith), block-read 5 l i 2 nan (omega arith), block-read 5 l i 3 nan (omega arith), block-read 5 l i 4 nan (omega arith), add-zero (5 * i))
+in-read n l i h k = blocks-read 5 blockEdge n l nan i noEdge h k
 
 pub in-past : (n : ℕ) (l : List Float) (i : ℕ) → n ≤ i → edge (edgesIn n l) i ≡ noEdge
 unfolding edgesIn

@@ -11,7 +11,7 @@ returns c = sym (in-past (c .before .args .n) (c .before .args .floats .now) (c 
 
 returns-2 : tie.Need-returns-2
 unfolding ofBits
-returns-2 c = sym (in-read (c .before .before .before .before .before .before .args .n) (c .before .before .before .before .before .before .args .floats .now) (c .before .before .before .before .before .before .args .i) (search needs))
+returns-2 c = sym (in-read (c .before .before .before .before .before .before .args .n) (c .before .before .before .before .before .before .args .floats .now) (c .before .before .before .before .before .before .args .i) (search needs) (c .before .before .before .before .before .before .pre))
 
 pub edge-at-spec : {M : Type 1} → statement M
 edge-at-spec =
