@@ -140,6 +140,10 @@ module _ (lo hi : ℤ) (r : ℕ) (h : r < howMany lo hi) where
   pub down-fits : SFits w64 lo → SFits w64 hi → SFits w64 (hi -ℤ pos r)
   down-fits = fits-between lo hi (hi -ℤ pos r) (le-makes lo (hi -ℤ pos r) (omega (arith, far, sub-parts-is hi (pos r)))) (le-makes (hi -ℤ pos r) hi (omega (arith, sub-parts-is hi (pos r))))
 
+pub number-fits : (w : Rows) (upward : Bool) (r : ℕ) → Spanned w → r < w .n → SFits w64 (rowNumber w upward r)
+number-fits w true r s h = down-fits (w .lo) (w .hi) r (omega (arith, s .all)) (s .low) (s .high)
+number-fits w false r s h = up-fits (w .lo) (w .hi) r (omega (arith, s .all)) (s .low) (s .high)
+
 -- the rows of a fill that passed SIZE
 pub spanned : (g : Settings) (es : List Edge) → length (rowNumbers g es) ≤ 4096 → Spanned (rowsOf g es)
 unfolding rowsOf kLo kHi rowNumbers

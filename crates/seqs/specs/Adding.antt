@@ -1,14 +1,18 @@
 -- The loop of a call that adds records to a table. Assumes nothing.
 use mathlib.Core.Path.{_≡_, refl, sym, ap, _∙_, subst}
 use mathlib.Core.List.{List, [], _∷_, _++_, append-nil}
-use Prim.Native.Nat.{ℕ, _+_, _*_, _≤_}
+use Prim.Native.Nat.{ℕ, _+_, _*_, _≤_, _<_}
 use native.Mathlib.Omega.{arith}
-use lib.ListN.{length, length-append}
+use lib.ListN.{length, set, length-append}
 use Rattle.seqs.specs.Lists.{each}
 use Rattle.seqs.specs.Slices.{Wrote}
 use Rattle.seqs.specs.Each.{each-append, each-length}
-use Rattle.seqs.specs.Wrote.{Run, run-start, run-at, run-step, run-end, wrote-none}
+use Rattle.seqs.specs.Wrote.{Run, run-start, run-at, run-step, run-end, wrote-none, wrote-stores}
 use Rattle.seqs.specs.Records.{Added}
+
+-- one element is stored
+pub run-push {ℓ} : {A : Type ℓ} {d₀ d : List A} {k₀ k : ℕ} {v : A} {rest whole : List A} → Run d₀ d k₀ k (v ∷ rest) whole → k < length d → Run d₀ (set d k v) k₀ (k + 1) rest whole
+run-push {d = d} {k = k} {v = v} {rest = rest} r h = run-step (v ∷ []) rest r (wrote-stores d k (v ∷ []))
 
 module _ {ℓ κ} {A : Type ℓ} {B : Type κ} (at : ℕ → ℕ) (enc : B → List A) where
   -- of `whole`, that is added from record n₀ on, `rest` is left, and n records stand
