@@ -1,5 +1,6 @@
 -- The stripe of places through a row, and the rows one after the other. Assumes nothing.
 use Prim.Native.Nat.{ℕ, zero, suc, _+_, _-_, _*_, _≤_, _<_}
+use native.Mathlib.Nat.{mul-le-mul-left}
 use native.Mathlib.Omega.{arith}
 use mathlib.Core.Path.{_≡_, refl, sym, ap, _∙_, subst}
 use mathlib.Core.Bool.{Bool, true, false, cond}
@@ -28,8 +29,8 @@ use Rattle.sweep.specs.declared.active.Live.{Live}
 use Rattle.sweep.specs.declared.row.Done.{Done}
 use Rattle.sweep.specs.declared.piece.Cut.{Cut}
 use Rattle.sweep.specs.declared.piece.Span.{Span}
-use Rattle.sweep.specs.Swept.{ordered, enters, stays, places, cutAt, cuts, spanBlock, pieceBlock, piecePlace, rowCounts, numbers, swept, Retained, Admitted, Gathered, Rowed, Laid}
-use Rattle.sweep.specs.SweptLaws.{ordered-length, cuts-few, cuts-pieces, added-pieces, asPiece, swept-next, swept-none}
+use Rattle.sweep.specs.Swept.{ordered, enters, stays, places, cutAt, cuts, spanBlock, pieceBlock, piecePlace, rowCounts, numbers, swept, waiting, sweptAll, Retained, Admitted, Gathered, Rowed, Laid}
+use Rattle.sweep.specs.SweptLaws.{ordered-length, waiting-length, cuts-few, cuts-pieces, added-pieces, asPiece, swept-next, swept-none}
 
 -- ---- a loop that takes up while a test holds
 
@@ -86,6 +87,9 @@ module _ (upward : Bool) (c : Cut) (es : List Edge) (e : ℕ) (live : Live) (i r
 
   pub row-size : length (b ++ drop e a) ≡ length a
   row-size = head-size a b e e-in b-size
+
+  pub row-count : {d d′ : List Float} {after : ℕ} → Added (piecePlace e) (spanBlock (c .y)) d d′ i after (cuts c es (take (now .m) b)) → after ≤ i + e
+  row-count added = omega (arith, added .count, cuts-few c es (take (now .m) b), length-take (now .m) b, row-few)
 
   pub row-done : {d d′ : List Float} {x : List ℕ} {after : ℕ} → Added (piecePlace e) (spanBlock (c .y)) d d′ i after (cuts c es (take (now .m) b))
       → Wrote (drop (4 * e) (b ++ drop e a)) x i (replicate (after - i) r)
@@ -186,3 +190,20 @@ module _ (w : Rows) (upward : Bool) (rule : FillRule) (g : Settings) (es : List 
             pieces = adding-step (piecePlace e) pieceBlock 3 (λ p. refl) (λ n m. omega arith) these (each (λ l. l) (rowsLeft (s .m) (s .next) a′ (r + 1))) (adding-at (piecePlace e) pieceBlock (ap (each (λ l. l)) left) (v .pieces)) added;
             counts = subst (λ q. Run (drop (4 * e) a₀) (drop (4 * e) a′) 0 q (rowCounts (r + 1) (rowsLeft (s .m) (s .next) a′ (r + 1))) (rowCounts 0 whole)) j (run-step (replicate (length these) r) (rowCounts (r + 1) (rowsLeft (s .m) (s .next) a′ (r + 1))) (run-at (ap (rowCounts r) left) (v .counts)) wrote);
           }
+
+-- a fill's pieces are few enough to count
+pub few-pieces : {e r i : ℕ} → e ≤ 1024 → r ≤ 4096 → i ≤ e * r → i ≤ 5000000
+few-pieces {e} {r} h k l = omega (arith, mul-le-mul-left e k)
+
+-- the rows over places that were put in order first
+pub waited-size : (upward : Bool) (es : List Edge) (e : ℕ) (a : List ℕ) {b : List ℕ} → 4 * e ≤ length a → length es ≡ e → b ≡ waiting upward es → length (b ++ drop e a) ≡ length a
+waited-size upward es e a {b} h k w = head-size a b e (omega arith) (ap length w ∙ waiting-length upward es ∙ k)
+
+pub laid-waited : (upward : Bool) (rule : FillRule) (g : Settings) (es : List Edge) (e n : ℕ) (ks : List ℤ) {d d′ : List Float} (a : List ℕ) {b a′ : List ℕ} → 4 * e ≤ length a → length es ≡ e → b ≡ waiting upward es
+    → Laid e n (swept upward rule g es [] (take e (b ++ drop e a)) ks) d d′ (b ++ drop e a) a′ → Laid e n (sweptAll upward rule g es ks) d d′ a a′
+unfolding sweptAll
+laid-waited upward rule g es e n ks {d} {d′} a {b} {a′} h k w l =
+    let f : length b ≡ e = ap length w ∙ waiting-length upward es ∙ k in
+    let t : take e (b ++ drop e a) ≡ waiting upward es = head-is a b e (omega arith) f ∙ w in
+    let r : Laid e n (swept upward rule g es [] (waiting upward es) ks) d d′ (b ++ drop e a) a′ = rw t at l in
+    record { size = r .size ∙ head-size a b e (omega arith) f; pieces = r .pieces; counts = rw (← head-later a b e (omega arith) f (4 * e) (omega arith)) (r .counts) }
