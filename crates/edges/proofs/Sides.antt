@@ -1,18 +1,17 @@
 -- The turns of a loop over a ring's sides, and over the rings. Assumes nothing.
-use Prim.Native.Nat.{ℕ, zero, suc, _+_, _-_, _*_, _≤_, _<_}
+use Prim.Native.Nat.{ℕ, _+_, _-_, _*_, _≤_, _<_}
 use native.Mathlib.Omega.{arith}
-use mathlib.Core.Path.{_≡_, refl, sym, ap, _∙_}
+use mathlib.Core.Path.{_≡_, refl}
 use mathlib.Core.Bool.{Bool, true, false, cond}
-use mathlib.Core.List.{List, [], _∷_, _++_, map}
+use mathlib.Core.List.{List, [], _∷_, _++_}
 use lib.Dec.{ltb}
 use lib.ListN.{length, take, drop, getD}
-use lib.Ieee.{Float, neg}
+use lib.Ieee.{Float}
 use borrow.Author.Tests.{ltb-true, ltb-false}
 use Rattle.seqs.specs.Lists.{each}
 use Rattle.geom.specs.declared.point.P.{P}
-use Rattle.geom.specs.Point.{rotate}
 use Rattle.geom.specs.Outline.{points, cut, rings}
-use Rattle.geom.specs.OutlineLaws.{cornerAt, points-next, points-end, cut-next, cut-none}
+use Rattle.geom.specs.OutlineLaws.{points-next, points-end, cut-next, cut-none}
 use Rattle.rules.specs.declared.Settings.{Settings}
 use Rattle.rules.specs.declared.Edge.{Edge}
 use Rattle.rules.specs.Fill.{keptSide, sidesTo, sides, turned, edges}

@@ -1,10 +1,10 @@
 -- There are no more kept edges than corners. Assumes nothing.
-use Prim.Native.Nat.{ℕ, zero, suc, _+_, _-_, _*_, _/_, _^_, _≤_, _<_}
+use Prim.Native.Nat.{ℕ, suc, _+_, _-_, _/_, _^_, _≤_}
 use native.Mathlib.Omega.{arith}
-use mathlib.Core.Path.{_≡_, refl, sym, ap, _∙_}
+use mathlib.Core.Path.{_≡_, refl, ap}
 use mathlib.Core.Bool.{Bool, true, false, cond}
-use mathlib.Core.List.{List, [], _∷_, _++_, map}
-use lib.ListN.{length, take, drop, length-append, length-map, length-take, length-drop}
+use mathlib.Core.List.{List, [], _∷_}
+use lib.ListN.{length, take, drop, length-append, length-map, length-take}
 use lib.Ieee.{Float, neg, lt}
 use Rattle.leaves.specs.Num.{_⊖_, literal}
 use Rattle.leaves.specs.Order.{magnitude}

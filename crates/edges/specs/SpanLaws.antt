@@ -1,10 +1,10 @@
 -- The rows of a list of edges, from its top and bottom; that row numbers fit. Assumes nothing.
-use Prim.Native.Nat.{ℕ, zero, suc, _+_, _-_, _^_, _≤_, _<_}
+use Prim.Native.Nat.{ℕ, _+_, _^_, _≤_, _<_}
 use native.Mathlib.Omega.{arith}
 use mathlib.Core.Path.{_≡_, refl, sym, ap, _∙_}
-use mathlib.Core.Bool.{Bool, true, false, cond}
+use mathlib.Core.Bool.{Bool, true, false}
 use mathlib.Core.Logic.{inl, inr}
-use mathlib.Core.List.{List, [], _∷_, map, reverse}
+use mathlib.Core.List.{List, [], _∷_}
 use lib.IntN.{ℤ, pos, negsuc, natAbs, _+ℤ_, _-ℤ_}
 use lib.ListN.{length, length-map}
 use lib.Signed.{leZ, ltZ}
@@ -19,7 +19,7 @@ use Rattle.leaves.specs.Whole.{floor, ceil}
 use Rattle.seqs.specs.Lists.{fold, upto}
 use Rattle.seqs.specs.Slices.{capped}
 use Rattle.seqs.specs.Tests.{either, clash}
-use Rattle.seqs.specs.Capped.{capped-in, capped-over, capped-exact}
+use Rattle.seqs.specs.Capped.{capped-in, capped-over}
 use Rattle.seqs.specs.Upto.{upto-length}
 use Rattle.seqs.specs.Ints.{above, below, gap, le-makes, lt-says, lt-denies, fits-says, add-parts, sub-parts-is, fits-between}
 use Rattle.rules.specs.declared.Settings.{Settings}

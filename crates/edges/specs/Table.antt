@@ -1,6 +1,5 @@
 -- The kept edges in a slice of floats: edge i as a block of five at 5·i. Definitions only.
 use Prim.Native.Nat.{ℕ, _+_, _*_, _≤_}
-use mathlib.Core.Path.{_≡_}
 use mathlib.Core.Bool.{Bool, true, false, cond}
 use mathlib.Core.List.{List, [], _∷_}
 use lib.Dec.{ltb}

@@ -1,14 +1,13 @@
 -- Laws of the edge table. Assumes nothing.
 use Prim.Native.Nat.{ℕ, _+_, _*_, _≤_, _<_}
 use native.Mathlib.Omega.{arith}
-use mathlib.Core.Path.{_≡_, refl, sym, ap, _∙_}
+use mathlib.Core.Path.{_≡_, refl}
 use mathlib.Core.Bool.{Bool, true, false}
-use mathlib.Core.List.{List, [], _∷_, _++_}
+use mathlib.Core.List.{List, _++_}
 use lib.ListN.{length, take, drop, getD}
 use lib.Ieee.{Float, nan, lt}
 use Rattle.leaves.specs.Num.{zero64}
 use Rattle.seqs.specs.Lists.{each}
-use Rattle.seqs.specs.Slices.{Wrote, blocks}
 use Rattle.seqs.specs.Records.{Added}
 use Rattle.seqs.specs.Each.{each-length}
 use Rattle.seqs.specs.Blocks.{blocks-length, blocks-read, blocks-past, blocks-kept, blocks-back}

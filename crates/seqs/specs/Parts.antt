@@ -1,10 +1,10 @@
 -- What a slice is after a part of it was lent and left as y: the first n elements, or all from n on. Assumes nothing.
-use mathlib.Core.Path.{_≡_, refl, sym, ap, _∙_}
-use mathlib.Core.List.{List, [], _∷_, _++_, append-nil}
-use Prim.Native.Nat.{ℕ, _+_, _-_, _≤_}
+use mathlib.Core.Path.{_≡_, ap, _∙_}
+use mathlib.Core.List.{List, _++_, append-nil}
+use Prim.Native.Nat.{ℕ, _-_, _≤_}
 use native.Mathlib.Omega.{arith}
 use lib.ListN.{length, take, drop, length-append, length-drop}
-use lib.Seq.{length-take-le, take-at, drop-at, take-append-le, take-all, drop-append-add, drop-drop}
+use lib.Seq.{length-take-le, take-at, drop-at, take-append-le, take-all}
 use Rattle.seqs.specs.Front.{none}
 use Rattle.seqs.specs.Reads.{drop-on}
 

@@ -1,17 +1,17 @@
 -- The stripe of places through a row, and the rows one after the other. Assumes nothing.
-use Prim.Native.Nat.{ℕ, zero, suc, _+_, _-_, _*_, _≤_, _<_}
+use Prim.Native.Nat.{ℕ, _+_, _-_, _*_, _≤_, _<_}
 use native.Mathlib.Nat.{mul-le-mul-left}
 use native.Mathlib.Omega.{arith}
 use mathlib.Core.Path.{_≡_, refl, sym, ap, _∙_, subst}
-use mathlib.Core.Bool.{Bool, true, false, cond}
+use mathlib.Core.Bool.{Bool, true, false}
 use mathlib.Core.List.{List, [], _∷_, _++_, map}
 use lib.IntN.{ℤ}
-use lib.ListN.{length, take, drop, getD, replicate, length-append, length-drop, length-take, length-replicate, length-map}
+use lib.ListN.{length, take, drop, getD, replicate, length-drop, length-take, length-replicate, length-map}
 use lib.Seq.{length-take-le, take-take}
 use lib.Ieee.{Float}
-use Rattle.seqs.specs.Lists.{sift, takeWhile, dropWhile, each}
+use Rattle.seqs.specs.Lists.{takeWhile, dropWhile, each}
 use Rattle.seqs.specs.Front.{next, none}
-use Rattle.seqs.specs.Reads.{take-on, drop-on, part-next, part-none}
+use Rattle.seqs.specs.Reads.{take-on, drop-on}
 use Rattle.seqs.specs.Parts.{head-size, head-take, head-is, head-later, tail-size, tail-kept, tail-is}
 use Rattle.seqs.specs.Slices.{Wrote}
 use Rattle.seqs.specs.Records.{Added}
@@ -28,7 +28,6 @@ use Rattle.sweep.specs.declared.key.Key.the-variants.{X}
 use Rattle.sweep.specs.declared.active.Live.{Live}
 use Rattle.sweep.specs.declared.row.Done.{Done}
 use Rattle.sweep.specs.declared.piece.Cut.{Cut}
-use Rattle.sweep.specs.declared.piece.Span.{Span}
 use Rattle.sweep.specs.Swept.{ordered, enters, stays, places, cutAt, cuts, spanBlock, pieceBlock, piecePlace, rowCounts, numbers, swept, waiting, sweptAll, Retained, Admitted, Gathered, Rowed, Laid}
 use Rattle.sweep.specs.SweptLaws.{ordered-length, waiting-length, cuts-few, cuts-pieces, added-pieces, asPiece, swept-next, swept-none}
 

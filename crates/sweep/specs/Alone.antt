@@ -2,7 +2,7 @@
 -- Assumes nothing.
 use mathlib.Core.Path.{_≡_, refl, sym, ap, _∙_, subst}
 use mathlib.Core.Bool.{Bool, true, false, _&&_, cond}
-use mathlib.Core.List.{List, [], _∷_, _++_, map, List·Permᴰ, IsChain, IsChain·nil, IsChain·singleton, IsChain·cons-cons, isChain-cons-cons}
+use mathlib.Core.List.{List, [], _∷_, map, List·Permᴰ, IsChain, IsChain·nil, IsChain·singleton, IsChain·cons-cons, isChain-cons-cons}
 use Prim.Native.Nat.{ℕ}
 use lib.Dec.{T}
 use lib.IntN.{ℤ}
@@ -10,18 +10,18 @@ use lib.ListN.{length}
 use lib.Ieee.{Float, le, lt}
 use lib.Ieee.Bits.{is-true}
 use Rattle.leaves.specs.FloatOrder.{le-trans, le-lt-trans, lt-le-trans}
-use Rattle.seqs.specs.Lists.{sift, takeWhile, dropWhile, fold, insertBack, sortBy, upto, sweepBy, All, Sorted, Strict, Sorts}
+use Rattle.seqs.specs.Lists.{sift, dropWhile, sortBy, upto, sweepBy, All, Sorted, Strict, Sorts}
 use Rattle.seqs.specs.All.{sorted-map}
 use Rattle.seqs.specs.Sift.{sift-same}
 use Rattle.seqs.specs.Sort.{backs-sort, backs-sorts}
-use Rattle.seqs.specs.Sweep.{Below, Earlier, crosses, sweep-alone}
+use Rattle.seqs.specs.Sweep.{Below, crosses, sweep-alone}
 use Rattle.geom.specs.declared.rule.FillRule.{FillRule}
 use Rattle.rules.specs.declared.Settings.{Settings}
 use Rattle.rules.specs.declared.Edge.{Edge}
 use Rattle.rules.specs.declared.Piece.{Piece}
 use Rattle.rules.specs.Fill.{edge, rowAt, starts, lives, byX, crossed, piecesAt, piecesOf}
 use Rattle.sweep.specs.declared.key.Key.the-variants.{X}
-use Rattle.sweep.specs.Swept.{by, ordered, enters, stays, places, swept}
+use Rattle.sweep.specs.Swept.{ordered, enters, stays, places, swept}
 
 so : {b : Bool} → b ≡ true → T b
 so e = subst T (sym e) tt

@@ -1,14 +1,13 @@
 -- Mission, demand 3, of every fill that is accepted: the pieces that the code's sweep finds, down or up, are those of each row taken alone.
 -- Assumes nothing.
 use mathlib.Core.Path.{_≡_, refl, sym, ap, _∙_, subst}
-use mathlib.Core.Bool.{Bool, true, false, not, cond, _&&_}
+use mathlib.Core.Bool.{Bool, true, false, not, cond}
 use mathlib.Core.Logic.{⊎-elim}
-use mathlib.Core.List.{List, [], _∷_, _++_, map, append-nil, List·Permᴰ, IsChain, IsChain·nil, IsChain·singleton, IsChain·cons-cons}
-use Prim.Native.Nat.{ℕ, zero, suc, _+_, _-_, _^_, _≤_}
-use native.Mathlib.Omega.{arith}
+use mathlib.Core.List.{List, [], _∷_, map, append-nil, List·Permᴰ, IsChain, IsChain·nil, IsChain·singleton, IsChain·cons-cons}
+use Prim.Native.Nat.{ℕ, zero, suc, _+_, _-_, _^_}
 use lib.Dec.{T, leb}
-use lib.IntN.{ℤ, pos, sucℤ, _+ℤ_, _-ℤ_}
-use lib.ListN.{length, getD}
+use lib.IntN.{pos, _+ℤ_, _-ℤ_}
+use lib.ListN.{length}
 use lib.Ieee.{Float, nan, inf, fin, binary64, neg, le, lt, fits, isNan}
 use lib.Ieee.Bits.{is-true}
 use lib.Ieee.Fits.{add-fits, neg-fits}
@@ -16,7 +15,7 @@ use Rattle.leaves.specs.Num.{_⊖_, literal}
 use Rattle.leaves.specs.Order.{before, magnitude}
 use Rattle.leaves.specs.OrderLaws.{before-trans, before-asym, before-total, not-before-le}
 use Rattle.leaves.specs.FloatOrder.{neg-le}
-use Rattle.seqs.specs.Lists.{each, fold, insertBack, sortBy, byKey, upto, All, Sorted, Strict, Keyed}
+use Rattle.seqs.specs.Lists.{each, fold, insertBack, sortBy, byKey, upto, All, Sorted, Keyed}
 use Rattle.seqs.specs.All.{all-map, all-append, sorted-map}
 use Rattle.seqs.specs.Each.{each-map}
 use Rattle.seqs.specs.Tests.{clash, refute}
@@ -24,21 +23,18 @@ use Rattle.seqs.specs.Sort.{backs-perm, backs-sort, sort-ordered}
 use Rattle.seqs.specs.ByKey.{by-key-strict}
 use Rattle.geom.specs.declared.point.P.{P}
 use Rattle.geom.specs.declared.rule.FillRule.{FillRule}
-use Rattle.geom.specs.Point.{rotate}
 use Rattle.geom.specs.Outline.{rings}
 use Rattle.rules.specs.declared.Settings.{Settings}
 use Rattle.rules.specs.declared.Edge.{Edge}
-use Rattle.rules.specs.declared.Piece.{Piece}
 use Rattle.rules.specs.Fill.{edgeOf, keptSide, sidesTo, sides, turned, edges, edge, noEdge, rowAt, rowNumbers, piecesOf, met}
 use Rattle.rules.specs.Alls.{all-get, all-parts, all-reverse}
 use Rattle.rules.specs.Accepted.{Accepted, Checked, checked}
-use Rattle.rules.specs.Edges.{Good, within-number, edges-good}
+use Rattle.rules.specs.Edges.{within-number, edges-good}
 use Rattle.rules.specs.Rows.{Fair, rows-fair, rows-fall, rows-strict}
 use Rattle.edges.specs.declared.rows.Rows.{Rows}
 use Rattle.edges.specs.Span.{rowsOf, rowNumber}
-use Rattle.sweep.specs.declared.key.Key.{Key}
 use Rattle.sweep.specs.declared.key.Key.the-variants.{Top, Bottom}
-use Rattle.sweep.specs.Swept.{keyOf, by, ordered, waiting, numbers, swept, sweptAll}
+use Rattle.sweep.specs.Swept.{keyOf, by, ordered, waiting, numbers, sweptAll}
 use Rattle.sweep.specs.Met.{numbers-met, number-on, number-back}
 use Rattle.sweep.specs.Alone.{onward, sooner, swept-alone}
 

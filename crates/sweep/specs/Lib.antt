@@ -4,3 +4,4 @@ pub mod SweptLaws
 pub mod Met
 pub mod Alone
 pub mod Exact
+pub mod LaidLaws

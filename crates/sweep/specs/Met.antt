@@ -19,7 +19,7 @@ use Rattle.rules.specs.declared.Settings.{Settings}
 use Rattle.rules.specs.declared.Edge.{Edge}
 use Rattle.rules.specs.Fill.{kLo, kHi, howMany, through, rowNumbers, met}
 use Rattle.rules.specs.Alls.{map-append}
-use Rattle.edges.specs.Span.{rowsOf, rowNumber}
+use Rattle.edges.specs.Span.{rowsOf}
 use Rattle.edges.specs.SpanLaws.{through-length}
 use Rattle.sweep.specs.Swept.{numbers}
 

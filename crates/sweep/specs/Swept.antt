@@ -17,7 +17,7 @@ use Rattle.geom.specs.Inside.{inside}
 use Rattle.rules.specs.declared.Settings.{Settings}
 use Rattle.rules.specs.declared.Edge.{Edge}
 use Rattle.rules.specs.declared.Piece.{Piece}
-use Rattle.rules.specs.Fill.{edge, rowAt, starts, lives, crossX, dir, crossing, spans, shrink, minRow, piecesAt}
+use Rattle.rules.specs.Fill.{edge, rowAt, starts, lives, crossX, crossing, spans, shrink, minRow, piecesAt}
 use Rattle.edges.specs.declared.rows.Rows.{Rows}
 use Rattle.edges.specs.Span.{rowNumber, Spanned}
 use Rattle.sweep.specs.declared.key.Key.{Key}

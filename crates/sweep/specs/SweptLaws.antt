@@ -1,14 +1,14 @@
 -- Laws of the sweep's definitions. Assumes nothing.
-use Prim.Native.Nat.{ℕ, zero, suc, _+_, _-_, _*_, _≤_, _<_}
+use Prim.Native.Nat.{ℕ, suc, _+_, _≤_, _<_}
 use native.Mathlib.Omega.{arith}
-use mathlib.Core.Path.{_≡_, refl, sym, ap, _∙_}
+use mathlib.Core.Path.{_≡_, refl, ap, _∙_}
 use mathlib.Core.Bool.{Bool, true, false, cond, not, _&&_}
 use mathlib.Core.List.{List, [], _∷_, _++_, map, append-nil}
 use lib.IntN.{ℤ, pos, _+ℤ_}
 use lib.ListN.{length, length-map}
 use lib.Ieee.{Float}
 use Rattle.leaves.specs.Num.{zero64}
-use Rattle.seqs.specs.Lists.{keepIf, sift, each, fold, insertBack, dropWhile, upto}
+use Rattle.seqs.specs.Lists.{keepIf, sift, each, dropWhile, upto}
 use Rattle.seqs.specs.Records.{Added}
 use Rattle.seqs.specs.Reads.{fuel-more, fuel-none}
 use Rattle.seqs.specs.Sift.{sift-length}

@@ -1,11 +1,7 @@
-use mathlib.Core.Path.{_≡_, refl, sym, ap, _∙_}
-use Prim.Native.Nat.{_≤_, _<_, _+_}
-use native.Mathlib.Omega.{arith}
 use mir.Syntax.{w64}
 use mir.ValLaws.{toZ-ofZ}
 use Rattle.seqs.specs.Ints.{lt-not-le, not-lt-le}
 use Rattle.edges.specs.SpanLaws.{many-none, many-over, gap-low, gap-high, gap-about, gap-below, gap-above}
-use borrow.Author.Needs.{needs}
 use Rattle.edges.proofs.rows.how_many.Statement.{statement}
 use Rattle.edges.proofs.rows.how_many.Tie as tie
 

@@ -1,8 +1,6 @@
-use mathlib.Core.Path.{_≡_, refl, sym, ap, _∙_}
 use lib.Ieee.{ofBits}
 use Rattle.geom.specs.Outline.{rings}
-use Rattle.rules.specs.Fill.{kLo, kHi, edges}
-use Rattle.edges.specs.Span.{rowsOf}
+use Rattle.rules.specs.Fill.{edges}
 use Rattle.edges.specs.SpanLaws.{rows-some, rows-none, cast-back}
 use borrow.Author.Needs.{needs}
 use Rattle.edges.proofs.rows.rows_of.Statement.{statement}

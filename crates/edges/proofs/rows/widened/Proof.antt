@@ -1,4 +1,3 @@
-use mathlib.Core.Path.{_≡_, refl, sym, ap, _∙_}
 use borrow.Author.Needs.{needs}
 use Rattle.edges.proofs.rows.widened.Statement.{statement}
 use Rattle.edges.proofs.rows.widened.Tie as tie

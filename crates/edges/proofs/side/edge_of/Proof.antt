@@ -1,6 +1,5 @@
 use mathlib.Core.Path.{refl}
 use Rattle.rules.specs.Fill.{edgeOf}
-use borrow.Author.Needs.{needs}
 use Rattle.edges.proofs.side.edge_of.Statement.{statement}
 use Rattle.edges.proofs.side.edge_of.Tie as tie
 

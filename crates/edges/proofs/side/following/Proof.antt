@@ -1,6 +1,6 @@
 use native.Mathlib.Omega.{arith}
 use borrow.Author.Tests.{lt-ltb, le-ltb}
-use Prim.Native.Nat.{_<_, _≤_, _+_}
+use Prim.Native.Nat.{_+_}
 use borrow.Author.Needs.{needs}
 use Rattle.edges.proofs.side.following.Statement.{statement}
 use Rattle.edges.proofs.side.following.Tie as tie

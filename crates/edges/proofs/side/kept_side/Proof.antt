@@ -1,5 +1,4 @@
-use mathlib.Core.Path.{_≡_, refl, sym, ap, _∙_}
-use lib.Ieee.{lt, ofBits, round}
+use lib.Ieee.{ofBits, round}
 use Rattle.leaves.specs.Num.{literal}
 use Rattle.rules.specs.Fill.{keptSide}
 use borrow.Author.Needs.{needs}

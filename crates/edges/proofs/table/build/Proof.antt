@@ -1,13 +1,13 @@
-use mathlib.Core.Path.{_≡_, refl, sym, ap, _∙_}
+use mathlib.Core.Path.{_≡_, refl}
 use mathlib.Core.Bool.{true}
-use Prim.Native.Nat.{_≤_, _<_, _+_, _-_, _*_, _/_}
+use Prim.Native.Nat.{_≤_, _-_, _*_, _/_}
 use native.Mathlib.Omega.{arith}
 use lib.ListN.{length, take, drop, getD, length-take, length-drop}
 use Rattle.seqs.specs.Adding.{Adding, adding-start, adding-at, adding-step, adding-end}
 use Rattle.geom.specs.Outline.{rings, rising}
-use Rattle.geom.specs.OutlineLaws.{rising-turn, rising-le}
+use Rattle.geom.specs.OutlineLaws.{rising-turn}
 use Rattle.rules.specs.Fill.{edges}
-use Rattle.edges.specs.Table.{edgeBlock, edgePlace, ringEdges}
+use Rattle.edges.specs.Table.{edgeBlock, edgePlace}
 use Rattle.edges.specs.EdgeCount.{flat-few}
 use Rattle.edges.proofs.Sides.{rest, rest-all, rest-next, rest-none}
 use borrow.Author.Needs.{needs}

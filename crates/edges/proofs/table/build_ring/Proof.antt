@@ -1,10 +1,10 @@
-use mathlib.Core.Path.{_≡_, refl, sym, ap, _∙_}
-use Prim.Native.Nat.{_≤_, _<_, _+_, _-_, _*_}
+use mathlib.Core.Path.{refl}
+use Prim.Native.Nat.{_≤_, _+_, _-_}
 use native.Mathlib.Omega.{arith}
 use lib.ListN.{length, drop}
 use Rattle.seqs.specs.Adding.{Adding, adding-start, adding-at, adding-step, adding-end, added-none}
 use Rattle.geom.specs.Outline.{points}
-use Rattle.edges.specs.Table.{corner, edgeBlock, edgePlace, found, ringEdges}
+use Rattle.edges.specs.Table.{corner, edgeBlock, edgePlace, ringEdges}
 use Rattle.edges.proofs.Sides.{left, left-next, left-none, ring-short, ring-long, found-few}
 use borrow.Author.Needs.{needs}
 use Rattle.edges.proofs.table.build_ring.Statement.{statement}

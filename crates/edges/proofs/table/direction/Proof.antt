@@ -1,7 +1,5 @@
-use mathlib.Core.Path.{_≡_, refl}
 use lib.Ieee.{ofBits, neg}
 use Rattle.edges.specs.Table.{direction}
-use borrow.Author.Needs.{needs}
 use Rattle.edges.proofs.table.direction.Statement.{statement}
 use Rattle.edges.proofs.table.direction.Tie as tie
 

@@ -1,5 +1,5 @@
 use native.Mathlib.Omega.{arith}
-use lib.ListN.{length, length-set}
+use lib.ListN.{length-set}
 use Rattle.edges.specs.Table.{edgeBlock}
 use Rattle.seqs.specs.Wrote.{wrote-stores, wrote-full}
 use borrow.Author.Needs.{needs}

@@ -1,8 +1,7 @@
-use mathlib.Core.Path.{_≡_, refl, sym, _∙_}
-use Prim.Native.Nat.{_≤_, _<_, _+_, _*_}
+use mathlib.Core.Path.{refl}
 use native.Mathlib.Omega.{arith}
 use Rattle.seqs.specs.Adding.{added-none, added-one}
-use Rattle.edges.specs.Table.{found, edgeBlock, edgePlace}
+use Rattle.edges.specs.Table.{edgeBlock, edgePlace}
 use borrow.Author.Needs.{needs}
 use Rattle.edges.proofs.table.put_side.Statement.{statement}
 use Rattle.edges.proofs.table.put_side.Tie as tie

@@ -1,10 +1,10 @@
 use mathlib.Core.Path.{_≡_, refl, sym, ap, _∙_}
 use mathlib.Core.List.{_++_}
 use mathlib.Core.Logic.{⊎-elim}
-use Prim.Native.Nat.{_+_, _-_, _≤_, _<_}
+use Prim.Native.Nat.{_-_}
 use native.Mathlib.Omega.{arith}
 use borrow.Author.Tests.{not-true, not-false}
-use lib.ListN.{length, take, drop, length-set}
+use lib.ListN.{length, take, drop}
 use Rattle.seqs.specs.Lists.{sift, takeWhile, dropWhile}
 use Rattle.seqs.specs.Move.{Move, move-start, move-at, move-kept, move-passed, move-read, move-end}
 use Rattle.edges.specs.Table.{edgesIn}

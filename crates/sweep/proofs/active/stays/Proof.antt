@@ -1,4 +1,3 @@
-use mathlib.Core.Path.{_≡_, refl}
 use Rattle.rules.specs.Fill.{starts, lives}
 use Rattle.sweep.specs.Swept.{stays}
 use borrow.Author.Needs.{needs}

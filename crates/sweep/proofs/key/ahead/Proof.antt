@@ -1,4 +1,4 @@
-use mathlib.Core.Path.{_≡_, refl, sym, ap, _∙_}
+use mathlib.Core.Path.{sym, _∙_}
 use borrow.Author.Needs.{needs}
 use Rattle.sweep.proofs.key.ahead.Statement.{statement}
 use Rattle.sweep.proofs.key.ahead.Tie as tie

@@ -1,4 +1,3 @@
-use mathlib.Core.Path.{_≡_, refl, sym, ap, _∙_}
 use Rattle.rules.specs.Fill.{crossX}
 use borrow.Author.Needs.{needs}
 use Rattle.sweep.proofs.key.key_of.Statement.{statement}

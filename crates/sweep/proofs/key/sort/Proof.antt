@@ -1,6 +1,4 @@
-use mathlib.Core.Path.{_≡_, refl, sym, ap, _∙_}
-use Prim.Native.Nat.{_-_, _≤_, _<_}
-use native.Mathlib.Omega.{arith}
+use Prim.Native.Nat.{_-_}
 use lib.ListN.{length}
 use Rattle.seqs.specs.Insert.{Sorting, sorting-start, sorting-step, sorting-end}
 use Rattle.edges.specs.Table.{edgesIn}

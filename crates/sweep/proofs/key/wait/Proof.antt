@@ -1,4 +1,4 @@
-use mathlib.Core.Path.{_≡_, refl, sym, ap, _∙_}
+use mathlib.Core.Path.{_∙_}
 use lib.ListN.{length}
 use Rattle.edges.specs.TableLaws.{in-length}
 use Rattle.sweep.specs.Swept.{waiting}

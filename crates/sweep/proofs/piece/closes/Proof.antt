@@ -1,5 +1,4 @@
-use mathlib.Core.Path.{_≡_, refl, sym, ap, _∙_}
-use native.Mathlib.Omega.{arith}
+use mathlib.Core.Path.{sym, _∙_}
 use Rattle.seqs.specs.Signed.{back}
 use borrow.Author.Needs.{needs}
 use Rattle.sweep.proofs.piece.closes.Statement.{statement}

@@ -1,8 +1,8 @@
-use mathlib.Core.Path.{_≡_, refl, sym, ap, _∙_}
-use Prim.Native.Nat.{_+_, _-_, _*_, _≤_, _<_}
+use mathlib.Core.Path.{refl}
+use Prim.Native.Nat.{_+_, _-_, _≤_}
 use native.Mathlib.Omega.{arith}
 use lib.ListN.{length}
-use lib.IntN.{pos, natAbs}
+use lib.IntN.{natAbs}
 use lib.Ieee.{ofBits}
 use Rattle.seqs.specs.Adding.{Adding, adding-start, adding-at, adding-step, adding-end, added-one}
 use Rattle.edges.specs.Table.{edgesIn}

@@ -1,7 +1,7 @@
-use mathlib.Core.Path.{_≡_, refl, sym, ap, _∙_}
-use Prim.Native.Nat.{_+_, _-_, _≤_, _<_}
+use mathlib.Core.Path.{_≡_}
+use Prim.Native.Nat.{_+_, _-_, _≤_}
 use native.Mathlib.Omega.{arith}
-use lib.ListN.{length, replicate, length-replicate}
+use lib.ListN.{replicate, length-replicate}
 use Rattle.seqs.specs.Front.{next-rep, none-rep}
 use Rattle.seqs.specs.Wrote.{Run, run-start, run-at, run-end, wrote-full}
 use Rattle.seqs.specs.Adding.{run-push}

@@ -1,4 +1,3 @@
-use mathlib.Core.Path.{refl}
 use borrow.Author.Needs.{needs}
 use Rattle.sweep.proofs.piece.way.Statement.{statement}
 use Rattle.sweep.proofs.piece.way.Tie as tie

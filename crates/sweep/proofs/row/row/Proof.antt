@@ -1,12 +1,10 @@
-use mathlib.Core.Path.{_≡_, refl, sym, ap, _∙_}
-use Prim.Native.Nat.{_+_, _-_, _*_, _≤_, _<_}
+use mathlib.Core.Path.{sym}
+use Prim.Native.Nat.{_*_, _≤_}
 use native.Mathlib.Omega.{arith}
 use mathlib.Core.List.{[]}
-use lib.ListN.{length, take, drop, length-take, length-drop}
+use lib.ListN.{length-take}
 use lib.Seq.{length-take-le}
 use Rattle.edges.specs.Table.{edgesIn}
-use Rattle.sweep.specs.Swept.{cuts}
-use Rattle.sweep.specs.SweptLaws.{cuts-few}
 use Rattle.sweep.proofs.Stripe.{row-active, row-few, row-size, row-count, row-done}
 use Rattle.seqs.specs.Parts.{tail-lent}
 use borrow.Author.Needs.{needs}

@@ -1,8 +1,7 @@
-use mathlib.Core.Path.{_≡_, refl, sym, ap, _∙_}
 use mathlib.Core.List.{[]}
-use Prim.Native.Nat.{_+_, _-_, _*_, _≤_, _<_}
+use Prim.Native.Nat.{_-_}
 use native.Mathlib.Omega.{arith}
-use lib.ListN.{length, take}
+use lib.ListN.{take}
 use Rattle.edges.specs.Table.{edgesIn}
 use Rattle.edges.specs.TableLaws.{in-kept}
 use Rattle.sweep.specs.Swept.{swept, numbers, piecePlace}

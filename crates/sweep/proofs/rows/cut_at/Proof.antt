@@ -1,4 +1,3 @@
-use mathlib.Core.Path.{_≡_, refl, sym, ap, _∙_}
 use lib.Ieee.{ofBits, round}
 use mir.Syntax.{w64}
 use mir.ValLaws.{toZ-ofZ}

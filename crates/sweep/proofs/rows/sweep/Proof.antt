@@ -1,11 +1,9 @@
-use mathlib.Core.Path.{_≡_, refl, sym, ap, _∙_}
-use Prim.Native.Nat.{_+_, _-_, _*_, _≤_, _<_}
+use mathlib.Core.Path.{sym}
 use native.Mathlib.Omega.{arith}
-use lib.ListN.{length, take, drop}
 use lib.Seq.{length-take-le}
 use Rattle.edges.specs.Table.{edgesIn}
 use Rattle.edges.specs.TableLaws.{in-length}
-use Rattle.sweep.specs.Swept.{waiting, numbers}
+use Rattle.sweep.specs.Swept.{numbers}
 use Rattle.sweep.proofs.Stripe.{waited-size, laid-waited}
 use borrow.Author.Needs.{needs}
 use Rattle.sweep.proofs.rows.sweep.Statement.{statement}
