@@ -1,0 +1,185 @@
+-- Mission, demand 3, of every fill that is accepted: the pieces that the code's sweep finds, down or up, are those of each row taken alone.
+-- Assumes nothing.
+use mathlib.Core.Path.{_≡_, refl, sym, ap, _∙_, subst}
+use mathlib.Core.Bool.{Bool, true, false, not, cond}
+use mathlib.Core.Logic.{⊎-elim}
+use mathlib.Core.List.{List, [], _∷_, map, append-nil, List·Permᴰ, IsChain, IsChain·nil, IsChain·singleton, IsChain·cons-cons}
+use Prim.Native.Nat.{ℕ, zero, suc, _+_, _-_, _^_}
+use lib.Dec.{T, leb}
+use lib.IntN.{pos, _+ℤ_, _-ℤ_}
+use lib.ListN.{length}
+use lib.Ieee.{Float, nan, inf, fin, binary64, neg, le, lt, fits, isNan}
+use lib.Ieee.Bits.{is-true}
+use lib.Ieee.Fits.{add-fits, neg-fits}
+use Rattle.numbers.specs.Num.{_⊖_, literal}
+use Rattle.numbers.specs.Order.{before, magnitude}
+use Rattle.numbers.specs.OrderLaws.{before-trans, before-asym, before-total, not-before-le}
+use Rattle.numbers.specs.FloatOrder.{neg-le}
+use Rattle.seqs.specs.Lists.{each, fold, insertBack, sortBy, byKey, upto, All, Sorted, Keyed}
+use Rattle.seqs.specs.All.{all-map, all-append, sorted-map}
+use Rattle.seqs.specs.Each.{each-map}
+use Rattle.seqs.specs.Tests.{clash, refute}
+use Rattle.seqs.specs.Sort.{backs-perm, backs-sort, sort-ordered}
+use Rattle.seqs.specs.ByKey.{by-key-strict}
+use Rattle.geom.specs.declared.point.P.{P}
+use Rattle.geom.specs.declared.rule.FillRule.{FillRule}
+use Rattle.geom.specs.Outline.{rings}
+use Rattle.rules.specs.declared.Settings.{Settings}
+use Rattle.rules.specs.declared.Edge.{Edge}
+use Rattle.rules.specs.Fill.{edgeOf, keptSide, sidesTo, sides, turned, edges, edge, noEdge, rowAt, rowNumbers, piecesOf, met}
+use Rattle.rules.specs.Alls.{all-get, all-parts, all-reverse}
+use Rattle.rules.specs.Accepted.{Accepted, Checked, checked}
+use Rattle.rules.specs.Edges.{within-number, edges-good}
+use Rattle.rules.specs.Rows.{Fair, rows-fair, rows-fall, rows-strict}
+use Rattle.edges.specs.declared.rows.Rows.{Rows}
+use Rattle.edges.specs.Span.{rowsOf, rowNumber}
+use Rattle.sweep.specs.declared.key.Key.the-variants.{Top, Bottom}
+use Rattle.sweep.specs.Swept.{keyOf, by, ordered, waiting, numbers, sweptAll}
+use Rattle.sweep.specs.Met.{numbers-met, number-on, number-back}
+use Rattle.sweep.specs.Alone.{onward, sooner, swept-alone}
+
+so : {b : Bool} → b ≡ true → T b
+so e = subst T (sym e) tt
+
+-- ---- places in order of keys that are numbers
+
+module _ (key : ℕ → Float) (fit : (i : ℕ) → T (fits binary64 (key i))) (number : (i : ℕ) → T (not (isNan (key i)))) where
+  keyed : Keyed before key
+  keyed = record {
+    one-way = λ i j e. refute (before (key j) (key i)) (λ d. absurd (before-asym (key i) (key j) (so e) (so d)));
+    trans = λ i j k d e. is-true (before (key i) (key k)) (before-trans (key i) (key j) (key k) (so d) (so e));
+    level = λ i j d e. ⊎-elim (λ h. absurd (subst T d h)) (λ r. ⊎-elim (λ h. absurd (subst T e h)) (λ q. q) r) (before-total (key i) (key j) (fit i) (fit j) (number i) (number j));
+  }
+
+  ahead : (a b x : Bool) → (a ≡ true → b ≡ true → ⊥) → cond a true (cond b false x) ≡ true → b ≡ true → ⊥
+  ahead true b x f e d = f refl d
+  ahead false true x f e d = clash e refl
+  ahead false false x f e d = clash d refl
+
+  not-behind : (i j : ℕ) → byKey before key i j ≡ true → T (le (key i) (key j))
+  not-behind i j e =
+      not-before-le (key i) (key j) (number i) (number j)
+      (λ d. ahead (before (key i) (key j)) (before (key j) (key i)) (leb i j) (λ p q. before-asym (key i) (key j) (so p) (so q)) e (is-true (before (key j) (key i)) d))
+
+  pub keys-rise : (l : List ℕ) → Sorted (λ i j. T (le (key i) (key j))) (fold (insertBack (byKey before key)) [] l)
+  keys-rise l =
+      let o = by-key-strict before key keyed in
+      rw (backs-sort (byKey before key) o l) (sorted-map not-behind (sortBy (byKey before key) l) (sort-ordered (byKey before key) (o .total) (o .trans) l))
+
+neg-neg : (x : Float) → neg (neg x) ≡ x
+unfolding neg
+neg-neg nan = refl
+neg-neg (inf true) = refl
+neg-neg (inf false) = refl
+neg-neg (fin true m e) = refl
+neg-neg (fin false m e) = refl
+
+-- ---- a turned corner's y is an f64, and so is an edge's y1
+
+abbrev Fit : P → Type 0
+Fit p = T (fits binary64 (p .y))
+
+turned-fit : (g : Settings) (ring : List P) → All Fit (turned g ring)
+unfolding turned
+turned-fit g [] = tt
+turned-fit g (p ∷ ring) = (add-fits binary64 _ _, turned-fit g ring)
+
+to-fit : (z : P) (l : List P) → Fit z → All Fit l → All (λ ab. Fit (ab .0) × Fit (ab .1)) (sidesTo z l)
+unfolding sidesTo
+to-fit z [] k h = tt
+to-fit z (a ∷ []) k h = ((h .0, k), tt)
+to-fit z (a ∷ b ∷ r) k h = ((h .0, h .1 .0), to-fit z (b ∷ r) k (h .1))
+
+sides-fit : (l : List P) → All Fit l → All (λ ab. Fit (ab .0) × Fit (ab .1)) (sides l)
+unfolding sides
+sides-fit [] h = tt
+sides-fit (a ∷ []) h = tt
+sides-fit (a ∷ b ∷ []) h = tt
+sides-fit (a ∷ b ∷ c ∷ r) h = to-fit a (a ∷ b ∷ c ∷ r) (h .0) h
+
+abbrev Ends : Edge → Type 0
+Ends e = T (fits binary64 (e .y0)) × T (fits binary64 (e .y1))
+
+kept-fit : (ab : P × P) → Fit (ab .0) × Fit (ab .1) → All Ends (keptSide ab)
+unfolding keptSide edgeOf
+kept-fit (a, b) h = two (lt (magnitude (a .y ⊖ b .y)) (literal 1 (10 ^ 9))) (lt (a .y) (b .y))
+  where
+    two : (s t : Bool) → All Ends (cond s [] (cond t (edgeOf a b true ∷ []) (edgeOf b a false ∷ [])))
+    two true t = tt
+    two false true = (h, tt)
+    two false false = ((h .1, h .0), tt)
+
+edges-fit : (g : Settings) (outline : List (List P)) → All Ends (edges g outline)
+unfolding edges
+edges-fit g [] = tt
+edges-fit g (ring ∷ outline) =
+    all-append Ends (each keptSide (sides (turned g ring))) (edges g outline)
+    (all-parts (λ ab. Fit (ab .0) × Fit (ab .1)) Ends keptSide kept-fit (sides (turned g ring)) (sides-fit (turned g ring) (turned-fit g ring)))
+    (edges-fit g outline)
+
+-- ---- an accepted fill
+
+module _ (outline : List (List P)) (g : Settings) (cyc : ℕ) (ok : Checked outline g cyc) where
+  abbrev es : List Edge
+  es = edges g outline
+
+  number : (i : ℕ) → T (not (isNan (edge es i .y0))) × T (not (isNan (edge es i .y1)))
+  unfolding isNan
+  number i = all-get (λ e. T (not (isNan (e .y0))) × T (not (isNan (e .y1)))) noEdge (tt, tt) es (all-map (λ e h. (within-number 19 (e .y0) (h .y0), within-number 19 (e .y1) (h .y1))) es (edges-good outline g cyc ok)) i
+
+  fit : (i : ℕ) → Ends (edge es i)
+  unfolding fits
+  fit i = all-get Ends noEdge (tt, tt) es (edges-fit g outline) i
+
+  neg-number : (x : Float) → T (not (isNan x)) → T (not (isNan (neg x)))
+  unfolding isNan neg
+  neg-number nan h = h
+  neg-number (inf s) h = tt
+  neg-number (fin s m e) h = tt
+
+  in-order : (upward : Bool) → Sorted (λ i j. T (sooner upward es i j)) (waiting upward es)
+  unfolding waiting ordered
+  in-order true =
+      sorted-map (λ i j h. subst T (λ t. le (neg-neg (edge es j .y1) t) (neg-neg (edge es i .y1) t)) (neg-le (neg (edge es i .y1)) (neg (edge es j .y1)) h)) (fold (insertBack (by Bottom es)) [] (upto 0 (length es)))
+      (keys-rise (keyOf Bottom es) (λ i. neg-fits binary64 (edge es i .y1) (fit i .1)) (λ i. neg-number (edge es i .y1) (number i .1)) (upto 0 (length es)))
+  in-order false = keys-rise (keyOf Top es) (λ i. fit i .0) (λ i. number i .0) (upto 0 (length es))
+
+  all-places : (upward : Bool) → List·Permᴰ (waiting upward es) (upto 0 (length es))
+  unfolding waiting ordered
+  all-places upward = rw append-nil at (backs-perm (by (cond upward Bottom Top) es) [] (upto 0 (length es)))
+
+  -- rows one after the other go one way
+  step : (w : Rows) (upward : Bool) (j : ℕ) → Fair (rowNumber w upward j) → Fair (rowNumber w upward (j + 1)) → T (onward upward (rowAt g (rowNumber w upward j)) (rowAt g (rowNumber w upward (j + 1))))
+  step w true j h k = rw (number-back (w .hi) j) (rows-fall outline g cyc ok (w .hi -ℤ pos (j + 1)) k (rw (number-back (w .hi) j) at h))
+  step w false j h k = rw (number-on (w .lo) j) (rows-fall outline g cyc ok (w .lo +ℤ pos j) h (rw (number-on (w .lo) j) at k))
+
+  chain : (w : Rows) (upward : Bool) (i n : ℕ) → All Fair (map (rowNumber w upward) (upto i n)) → IsChain (λ a b. T (onward upward (rowAt g a) (rowAt g b))) (map (rowNumber w upward) (upto i n))
+  chain w upward i zero h = IsChain·nil
+  chain w upward i (suc zero) h = IsChain·singleton (rowNumber w upward i)
+  chain w upward i (suc (suc n)) h = IsChain·cons-cons (step w upward i (h .0) (h .1 .0)) (chain w upward (i + 1) (suc n) (h .1))
+
+  met-fair : (upward : Bool) → All Fair (met upward (rowNumbers g es))
+  unfolding met
+  met-fair true = all-reverse Fair (rowNumbers g es) (rows-fair outline g cyc ok)
+  met-fair false = rows-fair outline g cyc ok
+
+  fair : (upward : Bool) → All Fair (numbers (rowsOf g es) upward 0)
+  fair upward = rw (numbers-met g es upward (ok .rows)) (met-fair upward)
+
+  pub swept-exact : (rule : FillRule) (upward : Bool) → sweptAll upward rule g es (numbers (rowsOf g es) upward 0) ≡ map (piecesOf rule g es) (met upward (rowNumbers g es))
+  unfolding sweptAll numbers
+  swept-exact rule upward =
+      swept-alone upward rule g es Fair (rows-strict outline g cyc ok) (waiting upward es) (all-places upward) (in-order upward) (numbers (rowsOf g es) upward 0) (fair upward)
+      (chain (rowsOf g es) upward 0 (rowsOf g es .n - 0) (fair upward))
+      ∙ ap (map (piecesOf rule g es)) (numbers-met g es upward (ok .rows))
+
+module _ (corners : List Float) (ends : List ℕ) (g : Settings) (stagger : ℕ) (accepted : Accepted corners ends g stagger) (rule : FillRule) (upward : Bool) where
+  -- row by row
+  pub sweep-exact : sweptAll upward rule g (edges g (rings corners ends)) (numbers (rowsOf g (edges g (rings corners ends))) upward 0) ≡ map (piecesOf rule g (edges g (rings corners ends))) (met upward (rowNumbers g (edges g (rings corners ends))))
+  sweep-exact = swept-exact (rings corners ends) g stagger (checked corners ends g stagger accepted) rule upward
+
+  -- all pieces in the order met
+  pub pieces-exact :
+      each (λ r. r) (sweptAll upward rule g (edges g (rings corners ends)) (numbers (rowsOf g (edges g (rings corners ends))) upward 0))
+      ≡ each (piecesOf rule g (edges g (rings corners ends))) (met upward (rowNumbers g (edges g (rings corners ends))))
+  pieces-exact = ap (each (λ r. r)) sweep-exact ∙ each-map (piecesOf rule g (edges g (rings corners ends))) (met upward (rowNumbers g (edges g (rings corners ends))))

@@ -1,0 +1,7 @@
+-- What the contracts of `sweep` cite (Swept), and what is proved of it: Exact has the theorem that a caller wants.
+pub mod Swept
+pub mod SweptLaws
+pub mod Met
+pub mod Alone
+pub mod Exact
+pub mod LaidLaws

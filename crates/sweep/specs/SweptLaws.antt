@@ -1,0 +1,108 @@
+-- Laws of the sweep's definitions. Assumes nothing.
+use Prim.Native.Nat.{ℕ, suc, _+_, _≤_, _<_}
+use native.Mathlib.Omega.{arith}
+use mathlib.Core.Path.{_≡_, refl, ap, _∙_}
+use mathlib.Core.Bool.{Bool, true, false, cond, not, _&&_}
+use mathlib.Core.List.{List, [], _∷_, _++_, map, append-nil}
+use lib.IntN.{ℤ, pos, _+ℤ_}
+use lib.ListN.{length, length-map}
+use lib.Ieee.{Float}
+use Rattle.numbers.specs.Num.{zero64}
+use Rattle.seqs.specs.Lists.{keepIf, sift, each, dropWhile, upto}
+use Rattle.seqs.specs.Records.{Added}
+use Rattle.seqs.specs.Reads.{fuel-more, fuel-none}
+use Rattle.seqs.specs.Sift.{sift-length}
+use Rattle.seqs.specs.Upto.{upto-length}
+use Rattle.seqs.specs.Sort.{perm-length, backs-perm}
+use Rattle.geom.specs.declared.rule.FillRule.{FillRule}
+use Rattle.geom.specs.Inside.{inside}
+use Rattle.rules.specs.declared.Settings.{Settings}
+use Rattle.rules.specs.declared.Edge.{Edge}
+use Rattle.rules.specs.declared.Piece.{Piece}
+use Rattle.rules.specs.Fill.{rowAt, spans, crossing, pieceOf, wide, piecesAt}
+use Rattle.edges.specs.declared.rows.Rows.{Rows}
+use Rattle.edges.specs.Span.{rowNumber}
+use Rattle.sweep.specs.declared.key.Key.{Key}
+use Rattle.sweep.specs.declared.key.Key.the-variants.{Top, Bottom}
+use Rattle.sweep.specs.declared.piece.Cut.{Cut}
+use Rattle.sweep.specs.declared.piece.Span.{Span}
+use Rattle.sweep.specs.Swept.{by, ordered, waiting, enters, places, cutAt, cutEnds, wideSpan, cutsFrom, cuts, spanBlock, pieceBlock, numbers, swept}
+
+pub ordered-length : (key : Key) (es : List Edge) (l : List ℕ) → length (ordered key es l) ≡ length l
+unfolding ordered
+ordered-length key es l = perm-length (backs-perm (by key es) [] l) ∙ ap length (append-nil l)
+
+pub waiting-length : (upward : Bool) (es : List Edge) → length (waiting upward es) ≡ length es
+unfolding waiting
+waiting-length upward es = ordered-length (cond upward Bottom Top) es (upto 0 (length es)) ∙ upto-length 0 (length es)
+
+-- ---- a row has no more pieces than places
+
+spans-few : (rule : FillRule) (w : ℤ) (start : Float) (l : List (Float × ℤ)) → length (spans rule w start l) ≤ length l
+unfolding spans
+spans-few rule w start [] = omega arith
+spans-few rule w start (c ∷ l) = go (inside rule w && not (inside rule (w +ℤ c .1))) (start, c .0) (spans rule (w +ℤ c .1) (cond (not (inside rule w) && inside rule (w +ℤ c .1)) (c .0) start) l) (spans-few rule (w +ℤ c .1) (cond (not (inside rule w) && inside rule (w +ℤ c .1)) (c .0) start) l)
+  where
+    go : (b : Bool) (p : Float × Float) (r : List (Float × Float)) → length r ≤ length l → length (keepIf b p r) ≤ suc (length l)
+    go true p r h = omega arith
+    go false p r h = omega arith
+
+pub cuts-few : (c : Cut) (es : List Edge) (l : List ℕ) → length (cuts c es l) ≤ length l
+unfolding cuts cutsFrom
+cuts-few c es l =
+    let cs = map (crossing es (c .y)) l in
+    let ss = spans (c .rule) (pos 0) zero64 cs in
+    omega (arith, sift-length (wideSpan c) (map (cutEnds c) ss), length-map ss (cutEnds c), spans-few (c .rule) (pos 0) zero64 cs, length-map l (crossing es (c .y)))
+
+-- ---- a row's spans are its pieces
+
+module _ (rule : FillRule) (g : Settings) (k : ℤ) where
+  -- as the piece of row k
+  abbrev pub asPiece : Span → Piece
+  asPiece p = record { k = k; y = rowAt g k; xa = p .xa; xb = p .xb }
+
+  as-pieces : (l : List (Float × Float)) → sift (wide g) (map (pieceOf g k) l) ≡ map asPiece (sift (wideSpan (cutAt rule g k)) (map (cutEnds (cutAt rule g k)) l))
+  unfolding wide pieceOf cutAt
+  as-pieces [] = refl
+  as-pieces (ab ∷ l) =
+      let c = cutAt rule g k in
+      go (wideSpan c (cutEnds c ab)) (cutEnds c ab) (sift (wideSpan c) (map (cutEnds c) l)) (as-pieces l)
+    where
+      go : (b : Bool) (p : Span) {m : List Piece} (r : List Span) → m ≡ map asPiece r → keepIf b (asPiece p) m ≡ map asPiece (keepIf b p r)
+      go true p r e = ap (λ r. asPiece p ∷ r) e
+      go false p r e = e
+
+  pub cuts-pieces : (es : List Edge) (l : List ℕ) → piecesAt rule g es k l ≡ map asPiece (cuts (cutAt rule g k) es l)
+  unfolding piecesAt cuts cutsFrom cutAt
+  cuts-pieces es l = as-pieces (spans rule (pos 0) zero64 (map (crossing es (rowAt g k)) l))
+
+  piece-blocks : (ps : List Span) → each (spanBlock (rowAt g k)) ps ≡ each pieceBlock (map asPiece ps)
+  piece-blocks [] = refl
+  piece-blocks (p ∷ ps) = ap (λ r. spanBlock (rowAt g k) p ++ r) (piece-blocks ps)
+
+  -- adding a row's spans is adding its pieces
+  pub added-pieces : (at : ℕ → ℕ) {d d′ : List Float} {n r : ℕ} (ps : List Span) → Added at (spanBlock (rowAt g k)) d d′ n r ps → Added at pieceBlock d d′ n r (map asPiece ps)
+  added-pieces at ps a = record { wrote = rw (← piece-blocks ps) (a .wrote); count = a .count ∙ rw (length-map ps asPiece) }
+
+-- ---- the rows one after the other
+
+module _ (w : Rows) (upward : Bool) (r : ℕ) where
+  pub numbers-next : r < w .n → numbers w upward r ≡ rowNumber w upward r ∷ numbers w upward (r + 1)
+  unfolding numbers
+  numbers-next h = rw (fuel-more (w .n) r h)
+
+  pub numbers-none : w .n ≤ r → numbers w upward r ≡ []
+  unfolding numbers
+  numbers-none h = rw (fuel-none (w .n) r h)
+
+module _ (w : Rows) (upward : Bool) (rule : FillRule) (g : Settings) (es : List Edge) (active wait : List ℕ) (r : ℕ) where
+  pub swept-next : r < w .n
+      → swept upward rule g es active wait (numbers w upward r)
+      ≡ piecesAt rule g es (rowNumber w upward r) (places upward es (rowAt g (rowNumber w upward r)) active wait)
+      ∷ swept upward rule g es (places upward es (rowAt g (rowNumber w upward r)) active wait) (dropWhile (enters upward es (rowAt g (rowNumber w upward r))) wait) (numbers w upward (r + 1))
+  unfolding swept
+  swept-next h = rw (numbers-next w upward r h)
+
+  pub swept-none : w .n ≤ r → swept upward rule g es active wait (numbers w upward r) ≡ []
+  unfolding swept
+  swept-none h = rw (numbers-none w upward r h)
