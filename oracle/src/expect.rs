@@ -4,10 +4,8 @@
 pub const DONE: u64 = 0;
 pub const NUMBER: u64 = 2;
 
-#[cfg(feature = "geom")]
 pub use limits::*;
 
-#[cfg(feature = "geom")]
 mod limits {
     use super::*;
     use std::ops::RangeInclusive;
@@ -23,7 +21,6 @@ mod limits {
     pub const SIZE_LIMIT: f64 = 100_000.0;
     pub const STEP: RangeInclusive<f64> = 0.5..=1000.0;
     pub const LEN: RangeInclusive<f64> = 1.0..=1000.0;
-    #[cfg(feature = "stroke")]
     pub const PASSES: RangeInclusive<u64> = 0..=64;
 
     /// The number of the first check that doesn't hold, in the table's order.
@@ -68,7 +65,6 @@ mod limits {
         pieces.saturating_add(u64::from(!pts.is_empty()))
     }
 
-    #[cfg(feature = "stroke")]
     pub fn running_points(pts: &[P], closed: bool, len: f64, passes: u64) -> u64 {
         let mut base = pts.to_vec();
         if closed && base.len() > 2 {

@@ -109,9 +109,8 @@ pub fn leaf_order(a: f64, b: f64, place: &mut u64) -> u64 {
     unsafe { raw::beahcerot_leaf_order(a, b, place) }
 }
 
-/// The geometry. These lines are a proposal until the archive exports them.
+/// The geometry.
 /// A slice passes as a pointer and a length; a point as x and y.
-#[cfg(feature = "geom")]
 pub mod geom {
     use crate::inputs::outlines::Outline;
     use zigzag::geom::{FillRule, P};
@@ -289,8 +288,7 @@ pub mod geom {
     }
 }
 
-/// Running stitch. These lines are a proposal until the archive exports them.
-#[cfg(feature = "stroke")]
+/// Running stitch.
 pub mod stroke {
     unsafe extern "C" {
         fn beahcerot_running(

@@ -90,7 +90,7 @@ pub extern "C" fn beahcerot_of_u64(n: u64) -> f64
 }
 
 // The answer's number; a value goes to `value`, a refusal leaves it.
-fn store(l: Leaf, value: &mut f64) -> u64
+pub fn store(l: Leaf, value: &mut f64) -> u64
     ensures { λ r. ⌜ (r ≡ said l .number) × (now (value .exit) ≡ stored (said l) (now (value .entry))) ⌝ }
 {
     match l {

@@ -12,12 +12,13 @@ use lib.Ieee.{Float, nan, le}
 use mir.Syntax.{w64}
 use mir.Val.{SFits, toZ, ofZ}
 use borrow.Author.Tests.{le-ltb, lt-ltb, eq-eqb, ne-eqb}
-use Rattle.seqs.specs.Signed.{natAbs-add, small, sum-small, back}
+use Rattle.seqs.specs.Signed.{natAbs-add, sum-small, back}
 use Rattle.geom.specs.declared.point.P.{P}
 use Rattle.geom.specs.Point.{point}
 use Rattle.geom.specs.Outline.{points, cut}
 use Rattle.geom.specs.OutlineLaws.{cornerAt, points-next, points-end, points-length, points-take, points-drop, points-last, cut-next, cut-none}
-use Rattle.geom.specs.Winding.{edge, edges, ring, winding, chain, lows, oneSide}
+use Rattle.geom.specs.Winding.{edge, edges, ring, winding}
+use Rattle.geom.specs.Runs.{chain, lows, oneSide}
 use Rattle.geom.specs.declared.rule.FillRule.{FillRule}
 use Rattle.geom.specs.Steps.{along}
 use Rattle.geom.specs.Inside.{pointInside, stepsInside}

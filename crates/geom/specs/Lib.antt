@@ -1,7 +1,8 @@
--- What the contracts of `geom` cite (Point, Outline, Winding, Steps, Inside, Sewing, Line, Limits, Answers, LineAnswers), and what is proved of it.
+-- What the contracts of `geom` cite (Point, Outline, Winding, Runs, Steps, Inside, Sewing, Line, Limits, Answers, LineAnswers), and what is proved of it.
 pub mod Point
 pub mod Outline
 pub mod Winding
+pub mod Runs
 pub mod Steps
 pub mod Inside
 pub mod Sewing
@@ -14,4 +15,5 @@ pub mod WindingLaws
 pub mod SewingLaws
 pub mod LineLaws
 pub mod LimitsLaws
+pub mod AnswersLaws
 pub mod Ks

@@ -11,7 +11,7 @@ use Rattle.numbers.specs.Order.{finite, magnitude}
 use Rattle.geom.specs.declared.point.P.{P}
 use Rattle.geom.specs.Outline.{rising}
 
--- of an outline; of an outline in all; of one rail or line; of a column
+-- LAYOUT: of an outline; of an outline in all; of one rail or line; of a column
 abbrev pub mostRings : ℕ
 mostRings = 255
 
@@ -23,6 +23,16 @@ mostOnLine = 1024
 
 abbrev pub mostSyncs : ℕ
 mostSyncs = 256
+
+-- SIZE: of a fill; of cross stitch, either way; of a pass
+abbrev pub mostRows : ℕ
+mostRows = 4096
+
+abbrev pub mostCells : ℕ
+mostCells = 4096
+
+abbrev pub mostPairs : ℕ
+mostPairs = 65536
 
 -- the size of a coordinate
 unfoldable pub largest : Float

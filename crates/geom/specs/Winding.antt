@@ -1,11 +1,11 @@
 -- The winding number of a point over rings, as geom.rs works it out. Definitions only.
-use Prim.Native.Nat.{ℕ, _+_, _-_}
-use mathlib.Core.Bool.{Bool, _&&_, _||_, cond}
+use Prim.Native.Nat.{_-_}
+use mathlib.Core.Bool.{_&&_, cond}
 use mathlib.Core.List.{List, [], _∷_}
-use lib.Dec.{ltb, eqb}
+use lib.Dec.{ltb}
 use lib.ListN.{length, getD}
 use lib.IntN.{ℤ, pos, negsuc, _+ℤ_}
-use lib.Ieee.{Float, lt, le}
+use lib.Ieee.{lt, le}
 use Rattle.numbers.specs.Num.{zero64}
 use Rattle.geom.specs.declared.point.P.{P}
 use Rattle.geom.specs.Point.{point, minus, cross}
@@ -29,19 +29,3 @@ ring p l = cond (ltb (length l) 3) (pos 0) (edges p (getD l (length l - 1) (poin
 unfoldable pub winding : List (List P) → P → ℤ
 winding [] p = pos 0
 winding (l ∷ ls) p = ring p l +ℤ winding ls p
-
--- ---- what the code works out on the way
-
--- the edges between the corners of a list
-unfoldable pub chain : P → List P → ℤ
-chain p [] = pos 0
-chain p (a ∷ rest) = edges p a rest
-
--- how many corners have at most this y
-unfoldable pub lows : Float → List P → ℕ
-lows y [] = 0
-lows y (a ∷ rest) = cond (le (a .y) y) 1 0 + lows y rest
-
--- all of them or none
-unfoldable pub oneSide : Float → List P → Bool
-oneSide y l = eqb (lows y l) 0 || eqb (lows y l) (length l)

@@ -17,7 +17,8 @@ use Rattle.geom.specs.declared.point.P.{P}
 use Rattle.geom.specs.Point.{minus, cross}
 use Rattle.geom.specs.Outline.{points, cut, rings, rising, Layout}
 use Rattle.geom.specs.OutlineLaws.{rising-turn}
-use Rattle.geom.specs.Winding.{edge, edges, ring, winding, chain, lows, oneSide}
+use Rattle.geom.specs.Winding.{edge, edges, ring, winding}
+use Rattle.geom.specs.Runs.{chain, lows, oneSide}
 
 -- ---- sizes
 

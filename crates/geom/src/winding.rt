@@ -3,7 +3,8 @@ ghost use mathlib.Core.Path.{_≡_};
 ghost use Prim.Native.Nat.{_%_};
 ghost use lib.ListN.{length};
 ghost use Rattle.geom.specs.Outline.{points, rings, Layout};
-ghost use Rattle.geom.specs.Winding.{edge, chain, oneSide, ring, winding};
+ghost use Rattle.geom.specs.Winding.{edge, ring, winding};
+ghost use Rattle.geom.specs.Runs.{chain, oneSide};
 use crate::point::P;
 use crate::point::cross;
 

@@ -297,8 +297,10 @@ struct Timed {
     p: P,
 }
 
+/// A traced outline of 900 corners, in one ring or in 36, and a point about it.
 fn plain_query(rng: &mut Rng) -> Timed {
-    let outline = outlines::sound(rng);
+    let rings = if rng.below(2) == 0 { 1 } else { 36 };
+    let outline = outlines::traced(rng, rings, 900 / rings);
     Timed {
         rings: outline.rings(),
         p: point_near(rng, &outline),
@@ -474,8 +476,9 @@ pub fn gave(room: usize, call: impl FnOnce(&mut [f64], &mut u64) -> u64) -> Writ
 /// A line in both forms, for timing.
 pub type Line = (Vec<f64>, Vec<P>);
 
+/// A traced line of 1,000 corners, its pieces some 10 to 40 units long.
 pub fn plain_line(rng: &mut Rng) -> Line {
-    let line = lines::ordinary(rng);
+    let line = lines::traced(rng, 1000);
     let pts = points(&line);
     (line, pts)
 }

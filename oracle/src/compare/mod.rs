@@ -2,10 +2,8 @@
 //! report differences, one way to time. A group is a file with a list of
 //! functions; see README.md for how to add one.
 
-#[cfg(feature = "geom")]
 pub mod geom;
 pub mod leaves;
-#[cfg(feature = "stroke")]
 pub mod stroke;
 
 use crate::rng::Rng;
@@ -351,7 +349,6 @@ impl<T: Outcome> Outcome for Answered<T> {
     }
 }
 
-#[cfg(feature = "geom")]
 impl<const N: usize> Operands for [f64; N] {
     fn size(&self) -> (usize, u64) {
         (0, self.iter().copied().map(simplicity).sum())
@@ -361,7 +358,6 @@ impl<const N: usize> Operands for [f64; N] {
     }
 }
 
-#[cfg(feature = "geom")]
 impl Outcome for [f64; 2] {
     fn same(&self, other: &Self) -> bool {
         self[0].same(&other[0]) && self[1].same(&other[1])
@@ -371,7 +367,6 @@ impl Outcome for [f64; 2] {
     }
 }
 
-#[cfg(feature = "geom")]
 pub fn list(numbers: &[f64]) -> String {
     let all: Vec<String> = numbers.iter().copied().map(hex).collect();
     format!("[{}]", all.join(" "))
@@ -379,14 +374,12 @@ pub fn list(numbers: &[f64]) -> String {
 
 /// A call that answers document 01's number and a count, and writes points to a
 /// lent slice: the whole slice counts, before and after the points.
-#[cfg(feature = "geom")]
 pub struct Written {
     pub answer: u64,
     pub count: u64,
     pub out: Vec<f64>,
 }
 
-#[cfg(feature = "geom")]
 impl Outcome for Written {
     fn same(&self, other: &Self) -> bool {
         self.answer == other.answer
@@ -417,13 +410,11 @@ pub fn groups() -> Vec<Group> {
             functions: leaves::functions(),
             replay: Some(leaves::replay),
         },
-        #[cfg(feature = "geom")]
         Group {
             name: "geom",
             functions: geom::functions(),
             replay: None,
         },
-        #[cfg(feature = "stroke")]
         Group {
             name: "stroke",
             functions: stroke::functions(),

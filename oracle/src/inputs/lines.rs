@@ -64,9 +64,18 @@ pub fn sound(rng: &mut Rng, len: f64) -> Vec<f64> {
     flat
 }
 
-/// An ordinary line for timing: twenty corners, some stitches apart.
-pub fn ordinary(rng: &mut Rng) -> Vec<f64> {
-    (0..40).map(|_| plain(rng) / 1000.0).collect()
+/// A line as tracing gives it, for timing: its pieces are some 10 to 40 units long.
+pub fn traced(rng: &mut Rng, corners: usize) -> Vec<f64> {
+    let (mut x, mut y, mut angle) = (0.0f64, 0.0f64, 0.0f64);
+    let mut line = Vec::with_capacity(2 * corners);
+    for _ in 0..corners {
+        line.extend([x, y]);
+        let step = rng.range(100, 400) as f64 / 10.0;
+        angle += rng.range(-50, 50) as f64 / 100.0;
+        x += step * angle.cos();
+        y += step * angle.sin();
+    }
+    line
 }
 
 /// Room in floats for so many points: enough, just enough, just not, or none.

@@ -182,10 +182,8 @@ pub fn plain(rng: &mut Rng) -> f64 {
     (unit - 0.5) * 200_000.0
 }
 
-#[cfg(feature = "geom")]
 pub use coordinates::*;
 
-#[cfg(feature = "geom")]
 mod coordinates {
     use super::*;
     use crate::expect::SIZE_LIMIT;

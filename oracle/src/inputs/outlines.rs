@@ -52,6 +52,23 @@ pub fn sound(rng: &mut Rng) -> Outline {
     Outline::new(&rings)
 }
 
+/// An outline as tracing gives it, for timing: wavy rings beside each other.
+pub fn traced(rng: &mut Rng, rings: usize, corners: usize) -> Outline {
+    let waves = rng.range(3, 9) as f64;
+    let ring = |k: usize| -> Polyline {
+        let centre = P::new(300.0 * (k % 6) as f64, 300.0 * (k / 6) as f64);
+        let size = if rings == 1 { 800.0 } else { 120.0 };
+        (0..corners)
+            .map(|i| {
+                let angle = std::f64::consts::TAU * i as f64 / corners as f64;
+                let radius = size * (1.0 + 0.2 * (waves * angle).sin());
+                centre + P::new(radius * angle.cos(), radius * angle.sin())
+            })
+            .collect()
+    };
+    Outline::new(&(0..rings).map(ring).collect::<Vec<_>>())
+}
+
 /// An outline that may be damaged in its layout, in its numbers, or in both.
 pub fn any(rng: &mut Rng) -> Outline {
     let mut outline = sound(rng);

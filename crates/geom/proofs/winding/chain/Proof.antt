@@ -6,7 +6,8 @@ use lib.IntN.{natAbs, _+ℤ_, +ℤ-idl}
 use mir.Syntax.{w64}
 use mir.Val.{toZ}
 use Rattle.geom.specs.Outline.{points}
-use Rattle.geom.specs.Winding.{edges, chain}
+use Rattle.geom.specs.Winding.{edges}
+use Rattle.geom.specs.Runs.{chain}
 use Rattle.geom.specs.WindingLaws.{edge-small}
 use Rattle.geom.proofs.Loops.{sum, chain-start, chain-short, edges-next, edges-end}
 use borrow.Author.Needs.{needs}

@@ -4,7 +4,7 @@ use Prim.Native.Nat.{_+_, _-_, _≤_}
 use native.Mathlib.Omega.{arith}
 use lib.ListN.{length, drop}
 use Rattle.geom.specs.Outline.{points}
-use Rattle.geom.specs.Winding.{lows}
+use Rattle.geom.specs.Runs.{lows}
 use Rattle.geom.proofs.Loops.{lows-next, lows-end, none-of-them, all-of-them}
 use borrow.Author.Needs.{needs}
 use Rattle.geom.proofs.winding.one_side.Statement.{statement}

@@ -7,7 +7,8 @@ use mir.Syntax.{w64}
 use mir.Val.{toZ}
 use Rattle.seqs.specs.Signed.{back}
 use Rattle.geom.specs.Outline.{points}
-use Rattle.geom.specs.Winding.{chain, ring}
+use Rattle.geom.specs.Winding.{ring}
+use Rattle.geom.specs.Runs.{chain}
 use Rattle.geom.specs.WindingLaws.{edge-small}
 use Rattle.geom.proofs.Loops.{sum, ring-short, ring-start, ring-next, ring-rest, block-small, rest-small}
 use borrow.Author.Needs.{needs}

@@ -1,0 +1,94 @@
+-- The two calls of a fill: who is turned away, in the order of document 01's table, and what a call leaves in each slice. Definitions only.
+use Prim.Native.Nat.{ℕ, _+_, _*_}
+use mathlib.Core.Bool.{Bool, not, _&&_, _||_, cond}
+use mathlib.Core.List.{List, [], _∷_, _++_, map}
+use lib.Dec.{leb, ltb, eqb}
+use lib.IntN.{ℤ}
+use lib.ListN.{length, drop, replicate}
+use lib.Ieee.{Float}
+use Rattle.refusal.specs.Refusal.{DONE, LAYOUT, NUMBER, SETTING, TURN, SIZE, WORK, ROOM}
+use Rattle.seqs.specs.Lists.{each}
+use Rattle.geom.specs.declared.point.P.{P}
+use Rattle.geom.specs.Outline.{rings}
+use Rattle.geom.specs.Limits.{goodOutline, goodNumbers, goodSpacing, goodLen, goodInset, goodStagger, goodTurn}
+use Rattle.geom.specs.declared.rule.FillRule.{FillRule}
+use Rattle.rules.specs.declared.Settings.{Settings}
+use Rattle.rules.specs.declared.Entry.{Entry}
+use Rattle.rules.specs.Fill.{edges, rowNumbers, rowList, tatami}
+
+-- ---- who is turned away
+
+-- spacing 0.5 to 1,000; len 1 to 1,000; inset and pull -100 to 100; stagger 0 to 1,000
+unfoldable pub goodSettings : Settings → ℕ → Bool
+goodSettings g stagger = goodSpacing (g .spacing) && goodLen (g .len) && goodInset (g .inset) && goodInset (g .pull) && goodStagger stagger
+
+-- the first of the table's 1 to 5 that applies, and where none does `rest`: these look at no slice but the outline
+unfoldable pub gate : List Float → List ℕ → Settings → ℕ → ℕ → ℕ
+gate corners ends g stagger rest =
+    cond (not (goodOutline corners ends)) LAYOUT
+    (cond (not (goodNumbers corners)) NUMBER
+    (cond (not (goodSettings g stagger)) SETTING
+    (cond (not (goodTurn (g .cosine) (g .sine))) TURN
+    (cond (ltb 4096 (length (rowNumbers g (edges g (rings corners ends))))) SIZE rest))))
+
+-- the need of a fill with E kept edges and I kept pieces: 6E + 4I floats and 4E + 6I whole numbers
+abbrev pub needFloats : ℕ → ℕ → ℕ
+needFloats e i = 6 * e + 4 * i
+
+abbrev pub needWholes : ℕ → ℕ → ℕ
+needWholes e i = 4 * e + 6 * i
+
+-- the first of the table that applies, for working slices of `floats` and `wholes` and an output that `fits` its slices or not
+unfoldable pub refusal : List Float → List ℕ → FillRule → Settings → ℕ → Bool → ℕ → ℕ → Bool → ℕ
+refusal corners ends rule g stagger bottomUp floats wholes fits =
+    let e = length (edges g (rings corners ends)) in
+    let i = length (rowList (rings corners ends) rule g bottomUp) in
+    gate corners ends g stagger
+    (cond (ltb floats (needFloats e i) || ltb wholes (needWholes e i)) WORK
+    (cond (not fits) ROOM DONE))
+
+-- ---- what a call leaves, by its answer n
+
+-- a count: every refusal returns zero counts
+abbrev pub counted : ℕ → ℕ → ℕ
+counted n c = cond (eqb n DONE) c 0
+
+-- an output slice: after 0 the answer at the front and the rest unchanged; a refusal changes none
+abbrev pub written : {A : Type 0} → ℕ → List A → List A → List A
+written n answer out = cond (eqb n DONE) (answer ++ drop (length answer) out) out
+
+-- a working slice: all zero after 0, 6 and 7, unchanged after 1 to 5
+abbrev pub worked : {A : Type 0} → ℕ → A → List A → List A
+worked n z w = cond (leb 1 n && leb n 5) w (replicate (length w) z)
+
+-- ---- the output of tatami: the points of all sections, each an x and a y, and where each section ends, counted in points
+
+unfoldable pub sewnPoints : List (List P) → List P
+sewnPoints ss = each (λ s. s) ss
+
+unfoldable pub sewnEnds : ℕ → List (List P) → List ℕ
+sewnEnds n [] = []
+sewnEnds n (s ∷ ss) = (n + length s) ∷ sewnEnds (n + length s) ss
+
+-- tatami's answer, for output slices of `points` floats and `ends` whole numbers
+unfoldable pub tatamiAnswer : List Float → List ℕ → FillRule → Settings → ℕ → Bool → ℕ → ℕ → ℕ → ℕ → ℕ
+tatamiAnswer corners ends rule g stagger bottomUp floats wholes points sectionEnds =
+    let ss = tatami (rings corners ends) rule g stagger bottomUp in
+    refusal corners ends rule g stagger bottomUp floats wholes (leb (2 * length (sewnPoints ss)) points && leb (length ss) sectionEnds)
+
+-- ---- the output of the row list: y, xa and xb of each piece, its row number, and its section number
+
+unfoldable pub listedFloats : List Entry → List Float
+listedFloats es = each (λ e. e .piece .y ∷ e .piece .xa ∷ e .piece .xb ∷ []) es
+
+unfoldable pub listedRows : List Entry → List ℤ
+listedRows es = map (λ e. e .piece .k) es
+
+unfoldable pub listedSections : List Entry → List ℕ
+listedSections es = map (λ e. e .section) es
+
+-- the row list's answer, for output slices of `ys` floats, `rows` row numbers and `sections` section numbers
+unfoldable pub rowListAnswer : List Float → List ℕ → FillRule → Settings → ℕ → Bool → ℕ → ℕ → ℕ → ℕ → ℕ → ℕ
+rowListAnswer corners ends rule g stagger bottomUp floats wholes ys rows sections =
+    let n = length (rowList (rings corners ends) rule g bottomUp) in
+    refusal corners ends rule g stagger bottomUp floats wholes (leb (3 * n) ys && leb n rows && leb n sections)

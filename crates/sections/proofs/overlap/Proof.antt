@@ -1,0 +1,16 @@
+use Rattle.rules.specs.Fill.{overlap}
+use borrow.Author.Needs.{needs}
+use Rattle.sections.proofs.overlap.Statement.{statement}
+use Rattle.sections.proofs.overlap.Tie as tie
+
+returns : tie.Need-returns
+unfolding overlap
+returns c = rw (c .before .before .if1 .taken)
+
+returns-2 : tie.Need-returns-2
+unfolding overlap
+returns-2 c = rw (c .if1 .left)
+
+pub overlap-spec : {M : Type 1} → statement M
+overlap-spec =
+    tie.close (tie.spec returns returns-2)

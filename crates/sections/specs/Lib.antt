@@ -1,0 +1,8 @@
+-- What the contracts of `sections` cite, and its laws.
+pub mod Mark
+pub mod MarkLaws
+pub mod MarkEntries
+pub mod MarkFrame
+pub mod RowEnds
+pub mod AllRows
+pub mod Marked
