@@ -84,6 +84,10 @@ all-cut a [] l h = tt
 all-cut a (e ∷ es) l h = (all-take Corner (e - a) (drop a l) (all-drop Corner a l h), all-cut e es l h)
 
 module _ (corners : List Float) (ends : List ℕ) (g : Settings) (stagger : ℕ) where
+  pub laid-out : Accepted corners ends g stagger → goodOutline corners ends ≡ true
+  unfolding gate
+  laid-out e = passed (goodOutline corners ends) 0 _ e .0
+
   pub checked : Accepted corners ends g stagger → Checked (rings corners ends) g stagger
   unfolding gate goodSettings goodSpacing goodLen goodInset goodTurn rings
   checked e =

@@ -61,11 +61,13 @@ written n answer out = cond (eqb n DONE) (answer ++ drop (length answer) out) ou
 abbrev pub worked : {A : Type 0} → ℕ → A → List A → List A
 worked n z w = cond (leb 1 n && leb n 5) w (replicate (length w) z)
 
--- ---- the output of tatami: the points of all sections, each an x and a y, and where each section ends, counted in points
+-- ---- the output of tatami
 
+-- the points of all sections, each an x and a y
 unfoldable pub sewnPoints : List (List P) → List P
 sewnPoints ss = each (λ s. s) ss
 
+-- where each section ends, counted in points
 unfoldable pub sewnEnds : ℕ → List (List P) → List ℕ
 sewnEnds n [] = []
 sewnEnds n (s ∷ ss) = (n + length s) ∷ sewnEnds (n + length s) ss
@@ -76,14 +78,17 @@ tatamiAnswer corners ends rule g stagger bottomUp floats wholes points sectionEn
     let ss = tatami (rings corners ends) rule g stagger bottomUp in
     refusal corners ends rule g stagger bottomUp floats wholes (leb (2 * length (sewnPoints ss)) points && leb (length ss) sectionEnds)
 
--- ---- the output of the row list: y, xa and xb of each piece, its row number, and its section number
+-- ---- the output of the row list
 
+-- y, xa and xb of each piece
 unfoldable pub listedFloats : List Entry → List Float
 listedFloats es = each (λ e. e .piece .y ∷ e .piece .xa ∷ e .piece .xb ∷ []) es
 
+-- its row number
 unfoldable pub listedRows : List Entry → List ℤ
 listedRows es = map (λ e. e .piece .k) es
 
+-- its section number
 unfoldable pub listedSections : List Entry → List ℕ
 listedSections es = map (λ e. e .section) es
 

@@ -66,9 +66,11 @@ howMany lo hi = cond (leZ lo hi) (natAbs (hi -ℤ lo) + 1) 0
 unfoldable pub through : ℤ → ℤ → List ℤ
 through lo hi = map (λ i. lo +ℤ pos i) (upto 0 (howMany lo hi))
 
+-- the first y0 in total order: `edges[0].y0` once they are sorted
 unfoldable pub ymin : List Edge → Float
 ymin es = fold (λ e y. smaller y (e .y0)) (inf false) es
 
+-- the last y1: `fold(f64::NEG_INFINITY, f64::max)`
 unfoldable pub ymax : List Edge → Float
 ymax es = fold (λ e y. larger y (e .y1)) (inf true) es
 
@@ -91,6 +93,7 @@ rowAt g k = (real k ⊕ half) ⊗ g .spacing
 
 -- ---- one row, taken alone
 
+-- what is read past the last edge
 abbrev pub noEdge : Edge
 noEdge = record { y0 = zero64; y1 = zero64; x0 = zero64; dxdy = zero64; falls = true }
 
@@ -98,10 +101,11 @@ noEdge = record { y0 = zero64; y1 = zero64; x0 = zero64; dxdy = zero64; falls = 
 abbrev pub edge : List Edge → ℕ → Edge
 edge es i = getD es i noEdge
 
--- a kept edge crosses row y when y0 <= y < y1
+-- a kept edge crosses row y when y0 <= y < y1: it has started
 unfoldable pub starts : List Edge → Float → ℕ → Bool
 starts es y i = le (edge es i .y0) y
 
+-- and it goes on
 unfoldable pub lives : List Edge → Float → ℕ → Bool
 lives es y i = lt y (edge es i .y1)
 
@@ -134,6 +138,7 @@ spans rule w start (c ∷ cs) =
     let now = inside rule (w +ℤ c .1) in
     keepIf (was && not now) (start, x) (spans rule (w +ℤ c .1) (cond (not was && now) x start) cs)
 
+-- inset - pull
 unfoldable pub shrink : Settings → Float
 shrink g = g .inset ⊖ g .pull
 
@@ -141,10 +146,11 @@ shrink g = g .inset ⊖ g .pull
 unfoldable pub pieceOf : Settings → ℤ → Float × Float → Piece
 pieceOf g k ab = record { k = k; y = rowAt g k; xa = ab .0 ⊕ shrink g; xb = ab .1 ⊖ shrink g }
 
+-- max(spacing·0.5, 3.0)
 unfoldable pub minRow : Settings → Float
 minRow g = larger (g .spacing ⊗ half) (literal 3 1)
 
--- and is kept when its width is at least max(spacing·0.5, 3.0)
+-- and is kept when its width is at least that
 unfoldable pub wide : Settings → Piece → Bool
 wide g p = le (minRow g) (p .xb ⊖ p .xa)
 
@@ -158,7 +164,7 @@ piecesOf rule g es k = piecesAt rule g es k (crossed es (rowAt g k))
 
 -- ---- sections
 
--- they overlap strictly
+-- a piece of the row before and one of this row overlap strictly
 unfoldable pub overlap : Piece → Piece → Bool
 overlap last next = lt (last .xa) (next .xb) && lt (next .xa) (last .xb)
 
@@ -262,6 +268,7 @@ remEuclid (negsuc a) n = n - 1 - a % n
 unfoldable pub offset : Settings → ℕ → ℤ → Float
 offset g stagger k = real (pos (remEuclid k (cycle stagger))) ⊗ g .len ⊘ real (pos (cycle stagger))
 
+-- min(len·0.25, 5.0)
 unfoldable pub minEnd : Settings → Float
 minEnd g = smaller (g .len ⊗ literal 1 4) (literal 5 1)
 
@@ -297,6 +304,7 @@ unfoldable pub sewFrom : Settings → P → List P → List P
 sewFrom g p [] = []
 sewFrom g p (q ∷ qs) = between g p q ++ (q ∷ sewFrom g q qs)
 
+-- a section's points, the first one first
 unfoldable pub sew : Settings → List P → List P
 sew g [] = []
 sew g (p ∷ ps) = p ∷ sewFrom g p ps

@@ -10,21 +10,21 @@ use native.Mathlib.Omega.{arith}
 use lib.Dec.{eqb}
 use lib.IntN.{ℤ, pos, sucℤ, predℤ, pred-suc, suc-pred, _+ℤ_, +ℤ-sucℤ}
 use lib.Ieee.{Float}
-use lib.ListN.{length, getD, length-append}
+use lib.ListN.{length, getD, length-append, length-map}
 use borrow.Author.Tests.{ne-eqb}
 use Rattle.numbers.specs.Num.{zero64}
 use Rattle.seqs.specs.Lists.{sift, each, upto, All}
 use Rattle.seqs.specs.All.{all-map, all-append, all-sift}
 use Rattle.seqs.specs.Sift.{sift-append, sift-none}
 use Rattle.seqs.specs.Each.{each-map}
-use Rattle.seqs.specs.Upto.{parts-perm}
+use Rattle.seqs.specs.Upto.{parts-perm, upto-length}
 use Rattle.geom.specs.declared.point.P.{P}
 use Rattle.geom.specs.declared.rule.FillRule.{FillRule}
 use Rattle.rules.specs.declared.Settings.{Settings}
 use Rattle.rules.specs.declared.Edge.{Edge}
 use Rattle.rules.specs.declared.Piece.{Piece}
 use Rattle.rules.specs.declared.Entry.{Entry}
-use Rattle.rules.specs.Fill.{edges, howMany, through, kLo, kHi, rowNumbers, rowAt, crossed, crossing, spans, pieceOf, wide, piecesAt, piecesOf, rowEntries, begun, entries, met, rowList, section, sections}
+use Rattle.rules.specs.Fill.{edges, howMany, through, kLo, kHi, rowNumbers, rowAt, crossed, crossing, spans, pieceOf, wide, piecesAt, piecesOf, rowEntries, begun, entries, met, rowList, section, sections, sew, sewn, tatami}
 use Rattle.rules.specs.Sections.{chain-snoc, Next, Begins, section-chain, entries-pieces, bound, all-begin}
 
 -- ---- row numbers
@@ -154,3 +154,19 @@ module _ (rings : List (List P)) (rule : FillRule) (g : Settings) where
     pieces-of-rows =
         entries-pieces rings rule g [] 0 (map (piecesOf rule g (edges g rings)) (met bottomUp (rowNumbers g (edges g rings))))
         ∙ each-map (piecesOf rule g (edges g rings)) (met bottomUp (rowNumbers g (edges g rings)))
+
+    -- so what tatami sews as section s is the row list's section s, and there are as many
+    pub tatami-at : (stagger s : ℕ) → getD (tatami rings rule g stagger bottomUp) s [] ≡ sewn g stagger (section (rowList rings rule g bottomUp) s)
+    unfolding tatami
+    tatami-at stagger s = mapped (sections (rowList rings rule g bottomUp)) s ∙ ap (sewn g stagger) (section-at s)
+      where
+        mapped : (l : List (List Entry)) (s : ℕ) → getD (map (sewn g stagger) l) s [] ≡ sewn g stagger (getD l s [])
+        mapped [] s = unfold sewn sew in refl
+        mapped (a ∷ l) zero = refl
+        mapped (a ∷ l) (suc s) = mapped l s
+
+    pub tatami-count : (stagger : ℕ) → length (tatami rings rule g stagger bottomUp) ≡ begun (rowList rings rule g bottomUp)
+    unfolding tatami sections
+    tatami-count stagger =
+        let n = begun (rowList rings rule g bottomUp) in
+        length-map (map (section (rowList rings rule g bottomUp)) (upto 0 n)) (sewn g stagger) ∙ length-map (upto 0 n) (section (rowList rings rule g bottomUp)) ∙ upto-length 0 n

@@ -12,5 +12,6 @@ pub mod Edges
 pub mod Rows
 pub mod Pieces
 pub mod Stitches
+pub mod Counts
 pub mod Theorems
 pub mod CallLaws

@@ -64,7 +64,7 @@ pub record Small (p : Piece) : Type 0 where
   pub xb : Within 23 (p .xb)
 
 module _ (outline : List (List P)) (g : Settings) (cyc : ℕ) (ok : Checked outline g cyc) where
-  crosses-within : (k : ℤ) → Fair k → All (λ i. Within 22 (crossX (edges g outline) (rowAt g k) i)) (crossed (edges g outline) (rowAt g k))
+  pub crosses-within : (k : ℤ) → Fair k → All (λ i. Within 22 (crossX (edges g outline) (rowAt g k) i)) (crossed (edges g outline) (rowAt g k))
   unfolding crossed crossX starts lives
   crosses-within k h =
       let es = edges g outline in

@@ -4,7 +4,8 @@
 use mathlib.Core.Path.{_≡_, sym, ap, _∙_}
 use mathlib.Core.Bool.{Bool, true, false, cond}
 use mathlib.Core.List.{List, [], map, reverse}
-use Prim.Native.Nat.{ℕ, _<_}
+use Prim.Native.Nat.{ℕ, _≤_, _<_}
+use native.Mathlib.Nat.{le-trans, mul-le-mul}
 use lib.IntN.{ℤ, pos}
 use lib.ListN.{length}
 use lib.Ieee.{Float}
@@ -13,6 +14,7 @@ use Rattle.numbers.specs.Whole.{floor, ceil}
 use Rattle.numbers.specs.Value.{Within, IsWhole}
 use Rattle.seqs.specs.Lists.{sortBy, fold, insertBack, each, All}
 use Rattle.seqs.specs.Sort.{backs-sort}
+use Rattle.seqs.specs.All.{all-map}
 use Rattle.geom.specs.declared.rule.FillRule.{FillRule}
 use Rattle.geom.specs.declared.point.P.{P}
 use Rattle.geom.specs.Point.{rotate, dist}
@@ -22,16 +24,17 @@ use Rattle.rules.specs.declared.Settings.{Settings}
 use Rattle.rules.specs.declared.Edge.{Edge}
 use Rattle.rules.specs.declared.Piece.{Piece}
 use Rattle.rules.specs.declared.Entry.{Entry}
-use Rattle.rules.specs.Fill.{edges, ymin, ymax, kLo, kHi, rowNumbers, rowAt, byX, piecesOf, linkEnds, entries, met, rowList, section, offset, minEnd, m0, m1, rowPoints, parts, tatami}
+use Rattle.rules.specs.Fill.{edges, ymin, ymax, kLo, kHi, rowNumbers, rowAt, crossX, byX, crossed, piecesOf, linkEnds, entries, met, rowList, section, offset, minEnd, m0, m1, rowPoints, parts, tatami}
 use Rattle.rules.specs.Sweep.{InOrder, swept, sweptBy, byStart}
 use Rattle.rules.specs.SweepLaws.{swept-alone, swept-by-alone}
 use Rattle.rules.specs.Alls.{map-reverse}
-use Rattle.rules.specs.Accepted.{Accepted, Checked, checked}
+use Rattle.rules.specs.Accepted.{Accepted, Checked, checked, laid-out}
+use Rattle.rules.specs.Counts.{edges-few, pieces-few}
 use Rattle.rules.specs.FillSections.{rows-down}
 use Rattle.rules.specs.Edges.{Good, edges-good}
-use Rattle.rules.specs.Pieces.{Small, pieces-small}
+use Rattle.rules.specs.Pieces.{Small, crosses-within, pieces-small}
 use Rattle.rules.specs.Stitches.{Inner, m0-whole, m1-whole, parts-whole, targets-inner, section-small, sewn-finite, link-finite}
-use Rattle.rules.specs.Rows.{Fair, row-ends-whole, rows-fair, rows-fall, rows-strict, starts-in-order}
+use Rattle.rules.specs.Rows.{Fair, row-within, row-ends-whole, rows-fair, rows-fall, rows-strict, starts-in-order}
 
 module _ (corners : List Float) (ends : List ℕ) (g : Settings) (stagger : ℕ) (accepted : Accepted corners ends g stagger) where
   abbrev es : List Edge
@@ -79,7 +82,7 @@ module _ (corners : List Float) (ends : List ℕ) (g : Settings) (stagger : ℕ)
   pub in-order : InOrder es (byStart es)
   in-order = starts-in-order (rings corners ends) g stagger known
 
-  -- ---- "no NaN or infinity arises", and `ceil() as i64` is "worked out and proved to lose nothing"
+  -- ---- every number stays finite and small; and document 01: "`ceil() as i64`: worked out and proved to lose nothing"
 
   -- every kept edge
   pub edges-finite : All Good es
@@ -92,15 +95,17 @@ module _ (corners : List Float) (ends : List ℕ) (g : Settings) (stagger : ℕ)
   pub hi-keeps : (0 < length es) → IsWhole 21 (floor (ymax es ⊘ g .spacing ⊖ half)) (kHi g es)
   hi-keeps h = row-ends-whole (rings corners ends) g stagger known es edges-finite h .1
 
+  -- every row's height, and where its crossings are
+  pub rows-finite : All (λ k. Within 33 (rowAt g k)) ks
+  rows-finite = all-map (row-within (rings corners ends) g stagger known) ks (rows-fair (rings corners ends) g stagger known)
+
+  pub crossings-finite : All (λ k. All (λ i. Within 22 (crossX es (rowAt g k) i)) (crossed es (rowAt g k))) ks
+  crossings-finite = all-map (crosses-within (rings corners ends) g stagger known) ks (rows-fair (rings corners ends) g stagger known)
+
   module _ (rule : FillRule) (bottomUp : Bool) where
-    -- every piece of the row list, and of each section
+    -- every piece of the row list
     pub pieces-finite : All (λ e. Small (e .piece)) (rowList (rings corners ends) rule g bottomUp)
     pieces-finite = pieces-small (rings corners ends) g stagger known rule bottomUp
-
-    -- the three points of a link that are tested, whatever pieces it joins
-    pub links-finite : (o : Entry) → Small (o .piece) → (next : Piece) → Small next → (k : ℕ) → k < 4
-        → let q = rotate (along (linkEnds o next .0) (linkEnds o next .1) 4 k) (g .cosine) (g .sine) in Within 82 (q .x) × Within 82 (q .y)
-    links-finite = link-finite (rings corners ends) g stagger known
 
     -- the points that a section is sewn through
     pub targets-finite : (s : ℕ) → All Inner (each (rowPoints g stagger) (section (rowList (rings corners ends) rule g bottomUp) s))
@@ -109,6 +114,11 @@ module _ (corners : List Float) (ends : List ℕ) (g : Settings) (stagger : ℕ)
     -- and all points sewn
     pub points-finite : All (All (λ p. Within 82 (p .x) × Within 82 (p .y))) (tatami (rings corners ends) rule g stagger bottomUp)
     points-finite = sewn-finite (rings corners ends) g stagger known rule bottomUp
+
+  -- the three points of a link that are tested, between such pieces
+  pub links-finite : (o : Entry) → Small (o .piece) → (next : Piece) → Small next → (k : ℕ) → k < 4
+      → let q = rotate (along (linkEnds o next .0) (linkEnds o next .1) 4 k) (g .cosine) (g .sine) in Within 82 (q .x) × Within 82 (q .y)
+  links-finite = link-finite (rings corners ends) g stagger known
 
   -- m0 and m1 of such a piece, and n between such points
   pub m0-keeps : (p : Piece) → Small p → IsWhole 25 (ceil ((p .xa ⊕ minEnd g ⊖ offset g stagger (p .k)) ⊘ g .len)) (m0 g stagger p)
@@ -119,3 +129,11 @@ module _ (corners : List Float) (ends : List ℕ) (g : Settings) (stagger : ℕ)
 
   pub n-keeps : (p q : P) → Inner p → Inner q → IsWhole 40 (ceil (dist p q ⊘ g .len)) (pos (parts g p q))
   n-keeps = parts-whole (rings corners ends) g stagger known
+
+  -- ---- how many
+
+  pub edges-bounded : length es ≤ 1024
+  edges-bounded = edges-few corners ends g (laid-out corners ends g stagger accepted)
+
+  pub pieces-bounded : (rule : FillRule) (bottomUp : Bool) → length (rowList (rings corners ends) rule g bottomUp) ≤ 4194304
+  pieces-bounded rule bottomUp = le-trans (pieces-few (rings corners ends) rule g bottomUp) (mul-le-mul edges-bounded (known .rows))
