@@ -1,7 +1,7 @@
 -- A turn of each loop that writes along a line. Assumes nothing.
 use Prim.Native.Nat.{ℕ, _+_, _-_, _*_, _≤_, _<_}
 use native.Mathlib.Omega.{arith}
-use mathlib.Core.Path.{_≡_, refl, sym, ap, _∙_}
+use mathlib.Core.Path.{_≡_, ap}
 use mathlib.Core.List.{List, [], _∷_, _++_}
 use lib.ListN.{length, take, drop}
 use lib.Ieee.{Float}
@@ -12,8 +12,10 @@ use Rattle.geom.specs.declared.point.P.{P}
 use Rattle.geom.specs.Steps.{along}
 use Rattle.geom.specs.Outline.{points}
 use Rattle.geom.specs.OutlineLaws.{cornerAt}
-use Rattle.geom.specs.Line.{flat, pieceSteps, stepsFrom, piece, piecesFrom, pieces}
-use Rattle.geom.specs.LineLaws.{points-room, points-put, steps-size, steps-next, piece-length, pieces-next}
+use Rattle.geom.specs.Sewing.{flat}
+use Rattle.geom.specs.SewingLaws.{points-room, points-put}
+use Rattle.geom.specs.Line.{pieceSteps, stepsFrom, piece, piecesFrom, pieces}
+use Rattle.geom.specs.LineLaws.{steps-size, steps-next, piece-length, pieces-next}
 
 -- the end of step i of n is next
 module _ {d₀ d : List Float} {at : ℕ} (k : ℕ) (a b : P) (n i : ℕ)

@@ -9,11 +9,6 @@ use Rattle.geom.specs.declared.point.P.{P}
 use Rattle.geom.specs.Point.{dist}
 use Rattle.geom.specs.Steps.{steps, along}
 
--- points as numbers, x before y
-unfoldable pub flat : List P → List Float
-flat [] = []
-flat (p ∷ ps) = p .x ∷ p .y ∷ flat ps
-
 -- ---- the length
 
 -- the sum so far, and the pieces from p on

@@ -1,15 +1,15 @@
 -- Document 01's answers of the calls along a line, each call's checks in the table's order. Definitions only.
 use Prim.Native.Nat.{ℕ}
 use mathlib.Core.List.{List}
-use lib.Dec.{leb}
 use lib.ListN.{length}
 use lib.Ieee.{Float}
-use Rattle.refusal.specs.Refusal.{LAYOUT, NUMBER, SETTING, ROOM, Answer, unless, _then_, answer}
+use Rattle.refusal.specs.Refusal.{LAYOUT, NUMBER, SETTING, Answer, unless, _then_, answer}
 use Rattle.refusal.specs.Sewn.{sewn, output}
 use Rattle.refusal.specs.declared.Sewn.{Sewn}
 use Rattle.geom.specs.Outline.{points}
+use Rattle.geom.specs.Sewing.{flat, fitted}
 use Rattle.geom.specs.Limits.{goodNumbers, goodLen, goodLine}
-use Rattle.geom.specs.Line.{flat, polylineLength, resampleKeepCorners}
+use Rattle.geom.specs.Line.{polylineLength, resampleKeepCorners}
 
 -- of a line: its layout, then its corners
 abbrev pub line : List Float → ℕ
@@ -20,7 +20,7 @@ polylineLengthAnswer l = answer (line l) (polylineLength (points l))
 
 -- `room` is the length of the output slice
 unfoldable pub resampleRefusal : List Float → Float → ℕ → ℕ
-resampleRefusal l len room = line l then unless SETTING (goodLen len) then unless ROOM (leb (length (flat (resampleKeepCorners (points l) len))) room)
+resampleRefusal l len room = line l then unless SETTING (goodLen len) then fitted (resampleKeepCorners (points l) len) room
 
 unfoldable pub resampleSewn : List Float → Float → ℕ → Sewn
 resampleSewn l len room = sewn (resampleRefusal l len room) (length (resampleKeepCorners (points l) len))

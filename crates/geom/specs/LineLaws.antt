@@ -1,12 +1,11 @@
--- What is proved of lines: points and their flat form, one step and the end of each definition. Assumes nothing.
+-- What is proved of lines: one step and the end of each definition, from a flat line's corner i on. Assumes nothing.
 use Prim.Native.Nat.{ℕ, zero, suc, _+_, _-_, _*_, _≤_, _<_}
 use native.Mathlib.Omega.{arith}
-use mathlib.Core.Path.{_≡_, refl, sym, ap, _∙_}
+use mathlib.Core.Path.{_≡_, refl, ap, _∙_}
 use mathlib.Core.List.{List, [], _∷_, _++_}
 use lib.ListN.{length, drop, length-append}
 use lib.Ieee.{Float, binary64, ofBits, round}
 use Rattle.numbers.specs.Num.{_⊕_, literal, zero64}
-use Rattle.seqs.specs.Front.{Front, front-at, front-room-block, front-whole}
 use Rattle.seqs.specs.Slices.{put}
 use Rattle.seqs.specs.Put.{put-then}
 use Rattle.geom.specs.declared.point.P.{P}
@@ -14,41 +13,9 @@ use Rattle.geom.specs.Point.{dist}
 use Rattle.geom.specs.Steps.{along}
 use Rattle.geom.specs.Outline.{points}
 use Rattle.geom.specs.OutlineLaws.{cornerAt, points-next, points-end}
-use Rattle.geom.specs.Line.{shortest, flat, lengthFrom, polylineLength, pieceSteps, stepsFrom, piece, piecesFrom, pieces, resampleKeepCorners}
-
--- ---- points as numbers
-
-pub flat-length : (ps : List P) → length (flat ps) ≡ 2 * length ps
-unfolding flat
-flat-length [] = refl
-flat-length (p ∷ ps) = omega (arith, flat-length ps)
-
-pub flat-append : (ps qs : List P) → flat (ps ++ qs) ≡ flat ps ++ flat qs
-unfolding flat
-flat-append [] qs = refl
-flat-append (p ∷ ps) qs = ap (λ (l : List Float). p .x ∷ p .y ∷ l) (flat-append ps qs)
-
-pub flat-none : {ps : List P} → ps ≡ [] → flat ps ≡ []
-unfolding flat
-flat-none e = rw e
-
-pub points-flat : (ps : List P) → points (flat ps) ≡ ps
-unfolding flat points
-points-flat [] = refl
-points-flat (p ∷ ps) = ap (λ (l : List P). p ∷ l) (points-flat ps)
-
--- a slice into which points are written from the front: m is next, and rest comes after it
-module _ {d₀ d : List Float} {n : ℕ} (m rest : List P) {whole : List Float} (f : Front d₀ d n (flat (m ++ rest)) whole) (fits : length whole ≤ length d₀) where
-  parted : Front d₀ d n (flat m ++ flat rest) whole
-  parted = front-at (flat-append m rest) f
-
-  pub points-room : n + 2 * length m ≤ length d
-  points-room = omega (arith, front-room-block (flat m) (flat rest) parted fits, flat-length m)
-
-  pub points-put : (y : List Float) → y ≡ put d n (flat m) → Front d₀ y (n + 2 * length m) (flat rest) whole
-  points-put y e = let g = front-whole (flat m) (flat rest) y parted (front-room-block (flat m) (flat rest) parted fits) e in rw (flat-length m) at g
-
--- ---- a flat line from its corner i on
+use Rattle.geom.specs.Sewing.{flat}
+use Rattle.geom.specs.SewingLaws.{flat-length, flat-append}
+use Rattle.geom.specs.Line.{shortest, lengthFrom, polylineLength, pieceSteps, stepsFrom, piece, piecesFrom, pieces, resampleKeepCorners}
 
 points-start : (l : List Float) → 1 < length l → points l ≡ cornerAt l 0 ∷ points (drop 2 l)
 points-start l h = points-next l 0 h

@@ -6,13 +6,9 @@ ghost use Rattle.geom.specs.LineAnswers.{polylineLengthAnswer, resampleS
 use crate::limits::good_len;
 use crate::limits::good_line;
 use crate::limits::good_numbers;
-use crate::line::count_line;
-use crate::line::put_line;
 use leaves::checked::Leaf;
-use refusal::DONE;
 use refusal::LAYOUT;
 use refusal::NUMBER;
-use refusal::ROOM;
 use refusal::SETTING;
 use refusal::Sewn;
 
@@ -49,17 +45,5 @@ pub fn resample_keep_corners(line: &[f64], len: f64, out: &mut [f64]) -> Sewn
             points: 0,
         };
     }
-    let room = (out.len() / 2) as u64;
-    let points = count_line(line, len, room);
-    if points > room {
-        return Sewn {
-            answer: ROOM,
-            points: 0,
-        };
-    }
-    put_line(out, 0, line, len);
-    Sewn {
-        answer: DONE,
-        points: points,
-    }
+    crate::line::resample_keep_corners(line, len, out)
 }

@@ -6,6 +6,7 @@ pub mod limits;
 pub mod line;
 pub mod point;
 pub mod rule;
+pub mod sewing;
 pub mod steps;
 pub mod winding;
 

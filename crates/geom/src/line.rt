@@ -1,27 +1,21 @@
 // A line of corners: its length, and the stitches along it that keep every corner.
 ghost use mathlib.Core.Path.{_≡_};
-ghost use mathlib.Core.List.{[], _∷_};
 ghost use Prim.Native.Nat.{_+_, _*_, _^_, _<_, _≤_};
 ghost use lib.ListN.{length};
-ghost use Rattle.seqs.specs.Slices.{put};
-ghost use Rattle.seqs.specs.Slices.{capped};
+ghost use Rattle.refusal.specs.Sewn.{sewn, output};
+ghost use Rattle.seqs.specs.Slices.{put, capped};
 ghost use Rattle.geom.specs.Outline.{points};
-ghost use Rattle.geom.specs.OutlineLaws.{cornerAt};
-ghost use Rattle.geom.specs.Line.{flat, polylineLength, pieceSteps, stepsFrom, pieces, resampleKeepCorners};
+ghost use Rattle.geom.specs.Sewing.{flat, fitted};
+ghost use Rattle.geom.specs.Line.{polylineLength, pieceSteps, stepsFrom, pieces, resampleKeepCorners};
 use crate::point::P;
+use crate::sewing::add_within;
+use crate::sewing::corner;
+use crate::sewing::put_point;
 use crate::steps::along;
 use crate::steps::steps;
-
-// The corner at place i.
-pub fn corner(s: &[f64], i: usize) -> P
-    requires { ⌜ i + 1 < length (now s) ⌝ }
-    ensures { λ r. ⌜ r ≡ cornerAt (now (s .entry)) i ⌝ }
-{
-    P {
-        x: s[i],
-        y: s[i + 1],
-    }
-}
+use refusal::DONE;
+use refusal::ROOM;
+use refusal::Sewn;
 
 pub fn polyline_length(line: &[f64]) -> f64
     ensures { λ r. ⌜ r ≡ polylineLength (points (now (line .entry))) ⌝ }
@@ -52,20 +46,6 @@ pub fn piece_steps(a: P, b: P, len: f64) -> u64
     steps(d, len)
 }
 
-// c + s, or room + 1 where that passes the room.
-pub fn add_within(c: u64, s: u64, room: u64) -> u64
-    requires { ⌜ room < 2 ^ 63 ⌝ }
-    ensures { λ r. ⌜ r ≡ capped room (c + s) ⌝ }
-{
-    if c > room {
-        return room + 1;
-    }
-    if s > room - c {
-        return room + 1;
-    }
-    c + s
-}
-
 // How many points the resampled line has, or room + 1 where they pass the room.
 pub fn count_line(line: &[f64], len: f64, room: u64) -> u64
     requires { ⌜ room < 2 ^ 63 ⌝ }
@@ -84,15 +64,6 @@ pub fn count_line(line: &[f64], len: f64, room: u64) -> u64
         i += 2;
     }
     c
-}
-
-// The point p from `at` on.
-pub fn put_point(out: &mut [f64], at: usize, p: P)
-    requires { ⌜ at + 1 < length (now out) ⌝ }
-    ensures { λ _. ⌜ now (out .exit) ≡ put (now (out .entry)) at (flat (p ∷ [])) ⌝ }
-{
-    out[at] = p.x;
-    out[at + 1] = p.y;
 }
 
 // The ends of the n steps from a to b, from k on; answers the place after them.
@@ -137,4 +108,23 @@ pub fn put_line(out: &mut [f64], k: usize, line: &[f64], len: f64) -> usize
     }
     put_point(out, k, corner(line, 0));
     put_pieces(out, k + 2, line, len)
+}
+
+// The resampled line to the front of out, or ROOM and nothing.
+pub fn resample_keep_corners(line: &[f64], len: f64, out: &mut [f64]) -> Sewn
+    ensures { λ r. ⌜ (r ≡ sewn (fitted (resampleKeepCorners (points (now (line .entry))) len) (length (now (out .entry)))) (length (resampleKeepCorners (points (now (line .entry))) len))) × (now (out .exit) ≡ output (fitted (resampleKeepCorners (points (now (line .entry))) len) (length (now (out .entry)))) (flat (resampleKeepCorners (points (now (line .entry))) len)) (now (out .entry))) ⌝ }
+{
+    let room = (out.len() / 2) as u64;
+    let points = count_line(line, len, room);
+    if points > room {
+        return Sewn {
+            answer: ROOM,
+            points: 0,
+        };
+    }
+    put_line(out, 0, line, len);
+    Sewn {
+        answer: DONE,
+        points: points,
+    }
 }

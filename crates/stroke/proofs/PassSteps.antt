@@ -2,7 +2,7 @@
 use Prim.Native.Nat.{ℕ, suc, _+_, _-_, _*_, _%_, _≤_, _<_}
 use native.Mathlib.Omega.{arith}
 use native.Mathlib.Nat.{zero-mul, suc-mul}
-use mathlib.Core.Path.{_≡_, refl, sym, ap, _∙_}
+use mathlib.Core.Path.{_≡_, ap, _∙_}
 use mathlib.Core.Bool.{Bool, cond}
 use mathlib.Core.List.{List, [], _∷_, _++_}
 use lib.Dec.{eqb}
@@ -13,10 +13,10 @@ use Rattle.seqs.specs.Slices.{put}
 use Rattle.seqs.specs.Wrote.{put-room}
 use Rattle.geom.specs.Outline.{points}
 use Rattle.geom.specs.OutlineLaws.{cornerAt}
-use Rattle.geom.specs.Line.{flat}
-use Rattle.geom.specs.LineLaws.{flat-length, points-room, points-put}
+use Rattle.geom.specs.Sewing.{flat}
+use Rattle.geom.specs.SewingLaws.{flat-length, points-room, points-put}
 use Rattle.stroke.specs.Running.{pass, passesFrom, standing}
-use Rattle.stroke.specs.RunningLaws.{turned, place-below, pass-length, pass-next, standing-length, standing-kept, passes-length, passes-next}
+use Rattle.stroke.specs.RunningLaws.{turned, place-below, pass-length, pass-next, standing-length, standing-kept, passes-next}
 
 -- point r of a pass over the first n is next
 module _ {d₀ d : List Float} {at : ℕ} (k n : ℕ) (back : Bool) (r : ℕ)

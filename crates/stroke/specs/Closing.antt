@@ -1,6 +1,6 @@
 -- A closed line is sewn as the open line and then the piece back to its first corner. `closing` is that piece; the rest are theorems.
 -- Assumes nothing.
-use Prim.Native.Nat.{ℕ, zero, suc, _+_, _-_, _*_, _/_, _≤_, _<_}
+use Prim.Native.Nat.{suc, _+_, _-_, _*_, _/_, _≤_, _<_}
 use native.Mathlib.Omega.{arith}
 use mathlib.Core.Path.{_≡_, refl, sym, ap, _∙_}
 use mathlib.Core.Bool.{Bool, true, false, cond, _&&_}
@@ -12,9 +12,10 @@ use borrow.Author.Tests.{ltb-true, lt-ltb, le-ltb}
 use Rattle.geom.specs.declared.point.P.{P}
 use Rattle.geom.specs.Outline.{points}
 use Rattle.geom.specs.OutlineLaws.{cornerAt, points-length, points-at}
-use Rattle.geom.specs.Line.{flat, piece, piecesFrom, pieces, resampleKeepCorners}
-use Rattle.geom.specs.LineLaws.{flat-append}
-use Rattle.stroke.specs.Running.{base}
+use Rattle.geom.specs.Sewing.{flat}
+use Rattle.geom.specs.Line.{piece, piecesFrom, pieces, resampleKeepCorners}
+use Rattle.geom.specs.SewingLaws.{flat-append}
+use Rattle.stroke.specs.Running.{base, onePass}
 
 unfoldable pub closing : List Float → Bool → Float → List P
 closing l closed len = cond (closed && ltb 2 (length l / 2)) (piece (cornerAt l (2 * (length l / 2 - 1))) (cornerAt l 0) len) []
@@ -56,18 +57,18 @@ module _ (l : List Float) (len : Float) where
       let b = points-at l 0 z (omega arith) in
       closed-line (points l) z len (omega (arith, points-length l)) ∙ rw (points-length l, a, b)
 
-  pub resample-base : (closed : Bool) → resampleKeepCorners (base (points l) closed) len ≡ resampleKeepCorners (points l) len ++ closing l closed len
-  unfolding base closing
-  resample-base false = sym (append-nil (resampleKeepCorners (points l) len))
-  resample-base true = rw (points-length l) (by (ltb 2 (length l / 2)) refl)
+  pub one-pass : (closed : Bool) → onePass (points l) closed len ≡ resampleKeepCorners (points l) len ++ closing l closed len
+  unfolding onePass base closing
+  one-pass false = sym (append-nil (resampleKeepCorners (points l) len))
+  one-pass true = rw (points-length l) (by (ltb 2 (length l / 2)) refl)
     where
       by : (b : Bool) → ltb 2 (length l / 2) ≡ b → resampleKeepCorners (cond b (points l ++ take 1 (points l)) (points l)) len ≡ resampleKeepCorners (points l) len ++ cond b (piece (cornerAt l (2 * (length l / 2 - 1))) (cornerAt l 0) len) []
       by true t = closed-points (ltb-true 2 (length l / 2) t)
       by false t = sym (append-nil (resampleKeepCorners (points l) len))
 
   module _ (closed : Bool) where
-    pub one-flat : flat (resampleKeepCorners (base (points l) closed) len) ≡ flat (resampleKeepCorners (points l) len) ++ flat (closing l closed len)
-    one-flat = ap flat (resample-base closed) ∙ flat-append (resampleKeepCorners (points l) len) (closing l closed len)
+    pub one-flat : flat (onePass (points l) closed len) ≡ flat (resampleKeepCorners (points l) len) ++ flat (closing l closed len)
+    one-flat = ap flat (one-pass closed) ∙ flat-append (resampleKeepCorners (points l) len) (closing l closed len)
 
-    pub one-size : length (flat (resampleKeepCorners (base (points l) closed) len)) ≡ length (flat (resampleKeepCorners (points l) len)) + length (flat (closing l closed len))
+    pub one-size : length (flat (onePass (points l) closed len)) ≡ length (flat (resampleKeepCorners (points l) len)) + length (flat (closing l closed len))
     one-size = ap length one-flat ∙ length-append (flat (resampleKeepCorners (points l) len)) (flat (closing l closed len))

@@ -2,22 +2,21 @@
 use Prim.Native.Nat.{ℕ}
 use mathlib.Core.Bool.{Bool}
 use mathlib.Core.List.{List}
-use lib.Dec.{leb}
 use lib.ListN.{length}
 use lib.Ieee.{Float}
-use Rattle.refusal.specs.Refusal.{SETTING, ROOM, unless, _then_}
+use Rattle.refusal.specs.Refusal.{SETTING, unless, _then_}
 use Rattle.refusal.specs.Sewn.{sewn, output}
 use Rattle.refusal.specs.declared.Sewn.{Sewn}
 use Rattle.geom.specs.Outline.{points}
 use Rattle.geom.specs.Limits.{goodLen, goodPasses}
-use Rattle.geom.specs.Line.{flat}
+use Rattle.geom.specs.Sewing.{flat, fitted}
 use Rattle.geom.specs.LineAnswers.{line}
 use Rattle.stroke.specs.Running.{running}
 
 -- `room` is the length of the output slice
 unfoldable pub runningRefusal : List Float → Bool → Float → ℕ → ℕ → ℕ
 runningRefusal l closed len passes room =
-    line l then unless SETTING (goodLen len) then unless SETTING (goodPasses passes) then unless ROOM (leb (length (flat (running (points l) closed len passes))) room)
+    line l then unless SETTING (goodLen len) then unless SETTING (goodPasses passes) then fitted (running (points l) closed len passes) room
 
 unfoldable pub runningSewn : List Float → Bool → Float → ℕ → ℕ → Sewn
 runningSewn l closed len passes room = sewn (runningRefusal l closed len passes room) (length (running (points l) closed len passes))

@@ -9,16 +9,19 @@ use lib.Dec.{eqb}
 use lib.ListN.{length, take, drop, getD, length-append, length-drop, length-reverse}
 use lib.Seq.{length-take-le, take-at}
 use lib.Ieee.{Float, nan}
+use borrow.Author.Tests.{lt-leb}
+use Rattle.refusal.specs.Refusal.{ROOM}
 use Rattle.seqs.specs.Front.{Front, front-kept, next, none}
-use Rattle.seqs.specs.Slices.{put}
+use Rattle.seqs.specs.Slices.{put, capped}
+use Rattle.seqs.specs.Capped.{capped-past}
 use Rattle.seqs.specs.Put.{put-length, put-then}
 use Rattle.seqs.specs.Reverse.{getD-reverse}
 use Rattle.geom.specs.declared.point.P.{P}
 use Rattle.geom.specs.Outline.{points}
 use Rattle.geom.specs.OutlineLaws.{cornerAt, points-length, points-at}
-use Rattle.geom.specs.Line.{flat, resampleKeepCorners}
-use Rattle.geom.specs.LineLaws.{flat-length, flat-append, points-flat}
-use Rattle.stroke.specs.Running.{base, pass, passesFrom, running, standing}
+use Rattle.geom.specs.Sewing.{flat, fitted}
+use Rattle.geom.specs.SewingLaws.{flat-length, flat-append, points-flat}
+use Rattle.stroke.specs.Running.{onePass, pass, passesFrom, running, standing}
 
 -- ---- one pass
 
@@ -84,36 +87,49 @@ module _ (one : List P) where
   unfolding passesFrom
   passes-none t p h = let e : p - t ≡ 0 = omega arith in rw e
 
--- ---- the whole
+-- ---- all of them
 
 module _ (line : List P) (closed : Bool) (len : Float) (passes : ℕ) where
-  abbrev pub onePass : List P
-  onePass = resampleKeepCorners (base line closed) len
-
-  pub running-length : length (running line closed len passes) ≡ length onePass + (passes - 1) * (length onePass - 1)
+  running-length : length (running line closed len passes) ≡ length (onePass line closed len) + (passes - 1) * (length (onePass line closed len) - 1)
   unfolding running
-  running-length = length-append onePass (passesFrom onePass 1 (passes - 1)) ∙ ap (λ (k : ℕ). length onePass + k) (passes-length onePass 1 (passes - 1))
+  running-length = let one = onePass line closed len in length-append one (passesFrom one 1 (passes - 1)) ∙ ap (λ (k : ℕ). length one + k) (passes-length one 1 (passes - 1))
 
-  pub running-flat : flat (running line closed len passes) ≡ flat onePass ++ flat (passesFrom onePass 1 (passes - 1))
+  running-flat : flat (running line closed len passes) ≡ flat (onePass line closed len) ++ flat (passesFrom (onePass line closed len) 1 (passes - 1))
   unfolding running
-  running-flat = flat-append onePass (passesFrom onePass 1 (passes - 1))
+  running-flat = let one = onePass line closed len in flat-append one (passesFrom one 1 (passes - 1))
+
+  -- one pass alone has no room
+  pub one-past : (room : ℕ) {c : ℕ} → c ≡ capped (room / 2) (length (onePass line closed len)) → room / 2 < c → fitted (running line closed len passes) room ≡ ROOM
+  unfolding fitted
+  one-past room e h =
+      let m = running line closed len passes in
+      rw (lt-leb (length (flat m)) room (omega (arith, flat-length m, running-length, capped-past (room / 2) (length (onePass line closed len)) e h)))
+
+  -- the count of all, from that of one
+  pub all-counted : (cap : ℕ) {n c : ℕ} → n ≡ length (onePass line closed len) → c ≡ capped cap (n + (passes - 1) * (n - 1)) → c ≡ capped cap (length (running line closed len passes))
+  all-counted cap e f = f ∙ rw (e, running-length)
 
   -- the first pass stands at the front of d₁: the others go over it
-  module _ (d d₁ : List Float) (n : ℕ) (e : d₁ ≡ put d 0 (flat onePass)) (f : n ≡ length onePass) where
-    pub standing-one : standing d₁ n ≡ onePass
+  module _ (d d₁ : List Float) (n : ℕ) (e : d₁ ≡ put d 0 (flat (onePass line closed len))) (f : n ≡ length (onePass line closed len)) where
+    standing-one : standing d₁ n ≡ onePass line closed len
     standing-one =
-        let m = flat onePass in
-        let h : length m ≡ 2 * n = flat-length onePass ∙ rw f in
-        rw e (ap points (take-at m (drop (length m) d) (2 * n) h) ∙ points-flat onePass)
+        let one = onePass line closed len in
+        let h : length (flat one) ≡ 2 * n = flat-length one ∙ rw f in
+        rw e (ap points (take-at (flat one) (drop (length (flat one)) d) (2 * n) h) ∙ points-flat one)
 
     module _ (fits : length (flat (running line closed len passes)) ≤ length d) where
-      sizes : 2 * n + length (flat (passesFrom onePass 1 (passes - 1))) ≤ length d
-      sizes = omega (arith, f, flat-length onePass, ap length running-flat ∙ length-append (flat onePass) (flat (passesFrom onePass 1 (passes - 1))))
+      sizes : 2 * n + length (flat (passesFrom (onePass line closed len) 1 (passes - 1))) ≤ length d
+      sizes =
+          let one = onePass line closed len in
+          omega (arith, f, flat-length one, ap length running-flat ∙ length-append (flat one) (flat (passesFrom one 1 (passes - 1))))
 
       pub passes-room : 2 * n + length (flat (passesFrom (standing d₁ n) 1 (passes - 1))) ≤ length d₁
-      passes-room = rw standing-one (omega (arith, sizes, ap length e ∙ put-length d (flat onePass) 0 (omega (arith, sizes, f, flat-length onePass))))
+      passes-room =
+          let one = onePass line closed len in
+          rw standing-one (omega (arith, sizes, ap length e ∙ put-length d (flat one) 0 (omega (arith, sizes, f, flat-length one))))
 
       pub running-put : (y : List Float) → y ≡ put d₁ (2 * n) (flat (passesFrom (standing d₁ n) 1 (passes - 1))) → y ≡ put d 0 (flat (running line closed len passes))
       running-put y g =
+          let one = onePass line closed len in
           rw running-flat
-          (put-then d d₁ y (flat onePass) (flat (passesFrom onePass 1 (passes - 1))) 0 (2 * n) (omega (arith, sizes, f, flat-length onePass)) e (omega (arith, f, flat-length onePass)) (rw standing-one at g))
+          (put-then d d₁ y (flat one) (flat (passesFrom one 1 (passes - 1))) 0 (2 * n) (omega (arith, sizes, f, flat-length one)) e (omega (arith, f, flat-length one)) (rw standing-one at g))

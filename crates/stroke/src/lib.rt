@@ -5,18 +5,18 @@ ghost use Rattle.stroke.specs.RunningAnswers.{runningSewn, runningOutput
 
 pub mod one;
 pub mod passes;
+pub mod whole;
 
 use geom::limits::good_len;
 use geom::limits::good_line;
 use geom::limits::good_numbers;
 use geom::limits::good_passes;
-use refusal::DONE;
 use refusal::LAYOUT;
 use refusal::NUMBER;
-use refusal::ROOM;
 use refusal::SETTING;
 use refusal::Sewn;
 
+// Document 01's call: the first check that applies answers, and a refusal writes nothing.
 pub fn running(line: &[f64], closed: bool, len: f64, passes: u64, out: &mut [f64]) -> Sewn
     ensures { λ r. ⌜ (r ≡ runningSewn (now (line .entry)) closed len passes (length (now (out .entry)))) × (now (out .exit) ≡ runningOutput (now (line .entry)) closed len passes (now (out .entry))) ⌝ }
 {
@@ -44,25 +44,5 @@ pub fn running(line: &[f64], closed: bool, len: f64, passes: u64, out: &mut [f64
             points: 0,
         };
     }
-    let room = (out.len() / 2) as u64;
-    let n = one::count_one(line, closed, len, room);
-    if n > room {
-        return Sewn {
-            answer: ROOM,
-            points: 0,
-        };
-    }
-    let points = passes::count_passes(n, passes, room);
-    if points > room {
-        return Sewn {
-            answer: ROOM,
-            points: 0,
-        };
-    }
-    one::put_one(out, line, closed, len);
-    passes::put_passes(out, n as usize, passes);
-    Sewn {
-        answer: DONE,
-        points: points,
-    }
+    whole::running(line, closed, len, passes, out)
 }

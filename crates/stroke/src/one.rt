@@ -2,18 +2,17 @@
 ghost use mathlib.Core.Path.{_≡_};
 ghost use Prim.Native.Nat.{_+_, _*_, _^_, _<_, _≤_};
 ghost use lib.ListN.{length};
-ghost use Rattle.seqs.specs.Slices.{put};
-ghost use Rattle.seqs.specs.Slices.{capped};
+ghost use Rattle.seqs.specs.Slices.{put, capped};
 ghost use Rattle.geom.specs.Outline.{points};
-ghost use Rattle.geom.specs.Line.{flat, resampleKeepCorners};
-ghost use Rattle.stroke.specs.Running.{base};
+ghost use Rattle.geom.specs.Sewing.{flat};
+ghost use Rattle.stroke.specs.Running.{onePass};
 ghost use Rattle.stroke.specs.Closing.{closing};
-use geom::line::add_within;
-use geom::line::corner;
 use geom::line::count_line;
 use geom::line::piece_steps;
 use geom::line::put_line;
 use geom::line::put_piece;
+use geom::sewing::add_within;
+use geom::sewing::corner;
 
 // How many stitches the closing piece takes.
 fn closing_steps(line: &[f64], closed: bool, len: f64) -> u64
@@ -47,7 +46,7 @@ fn put_closing(out: &mut [f64], k: usize, line: &[f64], closed: bool, len: f64)
 // How many points one pass has, or room + 1 where they pass the room.
 pub fn count_one(line: &[f64], closed: bool, len: f64, room: u64) -> u64
     requires { ⌜ room < 2 ^ 63 ⌝ }
-    ensures { λ r. ⌜ r ≡ capped room (length (resampleKeepCorners (base (points (now (line .entry))) closed) len)) ⌝ }
+    ensures { λ r. ⌜ r ≡ capped room (length (onePass (points (now (line .entry))) closed len)) ⌝ }
 {
     add_within(
         count_line(line, len, room),
@@ -58,8 +57,8 @@ pub fn count_one(line: &[f64], closed: bool, len: f64, room: u64) -> u64
 
 // One pass, to the front of out.
 pub fn put_one(out: &mut [f64], line: &[f64], closed: bool, len: f64)
-    requires { ⌜ length (flat (resampleKeepCorners (base (points (now line)) closed) len)) ≤ length (now out) ⌝ }
-    ensures { λ _. ⌜ now (out .exit) ≡ put (now (out .entry)) 0 (flat (resampleKeepCorners (base (points (now (line .entry))) closed) len)) ⌝ }
+    requires { ⌜ length (flat (onePass (points (now line)) closed len)) ≤ length (now out) ⌝ }
+    ensures { λ _. ⌜ now (out .exit) ≡ put (now (out .entry)) 0 (flat (onePass (points (now (line .entry))) closed len)) ⌝ }
 {
     let k = put_line(out, 0, line, len);
     put_closing(out, k, line, closed, len);

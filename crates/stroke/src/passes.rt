@@ -3,13 +3,12 @@ ghost use mathlib.Core.Path.{_≡_};
 ghost use mathlib.Core.Bool.{cond};
 ghost use Prim.Native.Nat.{_+_, _-_, _*_, _^_, _<_, _≤_};
 ghost use lib.ListN.{length};
-ghost use Rattle.seqs.specs.Slices.{put};
-ghost use Rattle.seqs.specs.Slices.{capped};
-ghost use Rattle.geom.specs.Line.{flat};
+ghost use Rattle.seqs.specs.Slices.{put, capped};
+ghost use Rattle.geom.specs.Sewing.{flat};
 ghost use Rattle.stroke.specs.Running.{pass, passesFrom, standing};
-use geom::line::add_within;
-use geom::line::corner;
-use geom::line::put_point;
+use geom::sewing::add_within;
+use geom::sewing::corner;
+use geom::sewing::put_point;
 
 // The place of point r of a pass over n points.
 fn place(r: usize, n: usize, back: bool) -> usize

@@ -1,4 +1,3 @@
-use mathlib.Core.Path.{_≡_, _∙_}
 use Rattle.geom.specs.Line.{pieceSteps}
 use Rattle.geom.specs.LineLaws.{shortest-bits}
 use borrow.Author.Needs.{needs}

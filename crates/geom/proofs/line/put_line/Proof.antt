@@ -1,11 +1,12 @@
 -- `put_line` meets its contract: the first corner, and the pieces after it. Assumes nothing.
-use mathlib.Core.Path.{_≡_, ap, _∙_}
+use mathlib.Core.Path.{ap, _∙_}
 use native.Mathlib.Omega.{arith}
 use mathlib.Core.List.{[], _∷_}
 use lib.ListN.{length}
 use Rattle.seqs.specs.Put.{put-none, put-length}
-use Rattle.geom.specs.Line.{flat}
-use Rattle.geom.specs.LineLaws.{flat-none, flat-length, resample-none, line-size, line-put}
+use Rattle.geom.specs.Sewing.{flat}
+use Rattle.geom.specs.SewingLaws.{flat-none, flat-length}
+use Rattle.geom.specs.LineLaws.{resample-none, line-size, line-put}
 use borrow.Author.Needs.{needs}
 use Rattle.geom.proofs.line.put_line.Statement.{statement}
 use Rattle.geom.proofs.line.put_line.Tie as tie

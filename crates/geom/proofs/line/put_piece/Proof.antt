@@ -3,11 +3,13 @@ use mathlib.Core.Path.{_≡_, refl}
 use Prim.Native.Nat.{_+_, _-_, _*_, _≤_}
 use native.Mathlib.Omega.{arith}
 use mathlib.Core.List.{_++_}
-use lib.ListN.{length, take}
+use lib.ListN.{take}
 use Rattle.seqs.specs.Front.{Front, front-from, front-at}
 use Rattle.seqs.specs.Wrote.{put-end}
-use Rattle.geom.specs.Line.{flat, stepsFrom}
-use Rattle.geom.specs.LineLaws.{flat-none, steps-size, steps-none}
+use Rattle.geom.specs.Line.{stepsFrom}
+use Rattle.geom.specs.Sewing.{flat}
+use Rattle.geom.specs.SewingLaws.{flat-none}
+use Rattle.geom.specs.LineLaws.{steps-size, steps-none}
 use Rattle.geom.proofs.LineSteps.{step-room, step-put}
 use borrow.Author.Needs.{needs}
 use Rattle.geom.proofs.line.put_piece.Statement.{statement}

@@ -1,14 +1,15 @@
 -- `put_pieces` meets its contract: the pieces of the corners from i on are to be written from `at` on. Assumes nothing.
-use mathlib.Core.Path.{_≡_, ap}
-use Prim.Native.Nat.{_+_, _-_, _≤_}
+use Prim.Native.Nat.{_-_, _≤_}
 use native.Mathlib.Omega.{arith}
 use mathlib.Core.List.{_++_}
 use lib.ListN.{length, take, drop}
 use Rattle.seqs.specs.Front.{Front, front-from, front-at}
 use Rattle.seqs.specs.Wrote.{put-end}
 use Rattle.geom.specs.Outline.{points}
-use Rattle.geom.specs.Line.{flat, piecesFrom, pieces}
-use Rattle.geom.specs.LineLaws.{flat-none, pieces-start, pieces-end}
+use Rattle.geom.specs.Line.{piecesFrom, pieces}
+use Rattle.geom.specs.Sewing.{flat}
+use Rattle.geom.specs.SewingLaws.{flat-none}
+use Rattle.geom.specs.LineLaws.{pieces-start, pieces-end}
 use Rattle.geom.proofs.LineSteps.{piece-room, piece-put}
 use borrow.Author.Needs.{needs}
 use Rattle.geom.proofs.line.put_pieces.Statement.{statement}

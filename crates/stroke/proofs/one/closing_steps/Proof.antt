@@ -1,4 +1,4 @@
-use mathlib.Core.Path.{_≡_, sym, ap, _∙_}
+use mathlib.Core.Path.{sym, ap}
 use lib.ListN.{length}
 use Rattle.geom.specs.LineLaws.{piece-length}
 use Rattle.stroke.specs.Closing.{closing-on, closing-short, closing-open}

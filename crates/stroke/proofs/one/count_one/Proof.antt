@@ -1,11 +1,9 @@
-use mathlib.Core.Path.{_≡_, sym, ap, _∙_}
-use Prim.Native.Nat.{_+_}
+use mathlib.Core.Path.{_∙_}
 use lib.ListN.{length, length-append}
-use Rattle.seqs.specs.Slices.{capped}
 use Rattle.seqs.specs.Capped.{capped-on}
 use Rattle.geom.specs.Outline.{points}
 use Rattle.geom.specs.Line.{resampleKeepCorners}
-use Rattle.stroke.specs.Closing.{closing, resample-base}
+use Rattle.stroke.specs.Closing.{closing, one-pass}
 use borrow.Author.Needs.{needs}
 use Rattle.stroke.proofs.one.count_one.Statement.{statement}
 use Rattle.stroke.proofs.one.count_one.Tie as tie
@@ -15,7 +13,7 @@ returns c =
     let a = c .before .before .before .before .args in
     let one = resampleKeepCorners (points (a .line .now)) (a .len) in
     let back = closing (a .line .now) (a .closed) (a .len) in
-    c .add-within .ensures ∙ rw (c .before .before .count-line .ensures, c .before .closing-steps .ensures, resample-base (a .line .now) (a .len) (a .closed), length-append one back) (capped-on (a .room) (length one) (length back))
+    c .add-within .ensures ∙ rw (c .before .before .count-line .ensures, c .before .closing-steps .ensures, one-pass (a .line .now) (a .len) (a .closed), length-append one back) (capped-on (a .room) (length one) (length back))
 
 pub count-one-spec : {M : Type 1} → statement M
 count-one-spec =

@@ -1,11 +1,10 @@
-use mathlib.Core.Path.{_≡_, sym, ap, _∙_}
-use Prim.Native.Nat.{_+_, _*_}
+use mathlib.Core.Path.{ap, _∙_}
 use native.Mathlib.Omega.{arith}
-use mathlib.Core.List.{[]}
 use lib.ListN.{length}
 use Rattle.seqs.specs.Put.{put-none}
-use Rattle.geom.specs.Line.{flat, piece}
-use Rattle.geom.specs.LineLaws.{flat-length, flat-none, piece-length}
+use Rattle.geom.specs.Line.{piece}
+use Rattle.geom.specs.SewingLaws.{flat-length, flat-none}
+use Rattle.geom.specs.LineLaws.{piece-length}
 use Rattle.stroke.specs.Closing.{closing, closing-on, closing-short, closing-open}
 use borrow.Author.Needs.{needs}
 use Rattle.stroke.proofs.one.put_closing.Statement.{statement}

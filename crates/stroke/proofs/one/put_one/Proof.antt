@@ -1,10 +1,11 @@
 -- `put_one` meets its contract: the line, and the closing piece after it. Assumes nothing.
-use mathlib.Core.Path.{_≡_, ap, _∙_}
+use mathlib.Core.Path.{ap, _∙_}
 use native.Mathlib.Omega.{arith}
 use lib.ListN.{length}
 use Rattle.seqs.specs.Put.{put-then, put-length}
 use Rattle.geom.specs.Outline.{points}
-use Rattle.geom.specs.Line.{flat, resampleKeepCorners}
+use Rattle.geom.specs.Sewing.{flat}
+use Rattle.geom.specs.Line.{resampleKeepCorners}
 use Rattle.stroke.specs.Closing.{closing, one-flat, one-size}
 use borrow.Author.Needs.{needs}
 use Rattle.stroke.proofs.one.put_one.Statement.{statement}

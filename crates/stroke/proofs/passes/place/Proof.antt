@@ -1,4 +1,3 @@
-use mathlib.Core.Bool.{cond}
 use borrow.Author.Needs.{needs}
 use Rattle.stroke.proofs.passes.place.Statement.{statement}
 use Rattle.stroke.proofs.passes.place.Tie as tie

@@ -1,14 +1,12 @@
 -- `put_pass` meets its contract: the points of the pass from r on are to be written from `at` on. Assumes nothing.
-use mathlib.Core.Path.{_≡_, refl, sym, ap, _∙_}
-use mathlib.Core.Bool.{cond}
-use Prim.Native.Nat.{_+_, _-_, _*_, _≤_}
+use Prim.Native.Nat.{_-_, _≤_}
 use native.Mathlib.Omega.{arith}
-use mathlib.Core.List.{List, [], _∷_, _++_}
-use lib.ListN.{length, take, drop}
+use mathlib.Core.List.{_++_}
+use lib.ListN.{take, drop}
 use Rattle.seqs.specs.Front.{Front, front-from, front-at}
 use Rattle.seqs.specs.Wrote.{put-end}
-use Rattle.geom.specs.Line.{flat}
-use Rattle.geom.specs.LineLaws.{flat-none, flat-length}
+use Rattle.geom.specs.Sewing.{flat}
+use Rattle.geom.specs.SewingLaws.{flat-none, flat-length}
 use Rattle.stroke.specs.Running.{pass, standing}
 use Rattle.stroke.specs.RunningLaws.{turned, place-below, pass-length, pass-none, standing-length}
 use Rattle.stroke.proofs.PassSteps.{pass-room, pass-step}

@@ -1,13 +1,12 @@
 -- `put_passes` meets its contract: the passes from t on are to be written from `at` on. Assumes nothing.
-use mathlib.Core.Path.{_≡_, refl, sym, ap, _∙_}
-use Prim.Native.Nat.{_+_, _-_, _*_, _≤_}
+use Prim.Native.Nat.{_-_, _*_, _≤_}
 use native.Mathlib.Omega.{arith}
-use mathlib.Core.List.{List, [], _∷_, _++_}
-use lib.ListN.{length, take, drop}
+use mathlib.Core.List.{_++_}
+use lib.ListN.{take}
 use Rattle.seqs.specs.Front.{Front, front-from, front-at}
 use Rattle.seqs.specs.Wrote.{put-end}
-use Rattle.geom.specs.Line.{flat}
-use Rattle.geom.specs.LineLaws.{flat-none}
+use Rattle.geom.specs.Sewing.{flat}
+use Rattle.geom.specs.SewingLaws.{flat-none}
 use Rattle.stroke.specs.Running.{passesFrom, standing}
 use Rattle.stroke.specs.RunningLaws.{passes-none}
 use Rattle.stroke.proofs.PassSteps.{run-room, run-step}

@@ -1,13 +1,11 @@
-use mathlib.Core.Path.{_≡_}
-use Prim.Native.Nat.{_+_, _<_}
 use native.Mathlib.Omega.{arith}
 use mathlib.Core.List.{[], _∷_}
-use lib.ListN.{length, length-set}
+use lib.ListN.{length-set}
 use Rattle.seqs.specs.Front.{front-from, front-push2, front-end}
-use Rattle.geom.specs.Line.{flat}
+use Rattle.geom.specs.Sewing.{flat}
 use borrow.Author.Needs.{needs}
-use Rattle.geom.proofs.line.put_point.Statement.{statement}
-use Rattle.geom.proofs.line.put_point.Tie as tie
+use Rattle.geom.proofs.sewing.put_point.Statement.{statement}
+use Rattle.geom.proofs.sewing.put_point.Tie as tie
 
 slice-write-out-2 : tie.Need-slice-write-out-2
 slice-write-out-2 c = simp length-set (omega arith)

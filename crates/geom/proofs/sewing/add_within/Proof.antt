@@ -1,10 +1,10 @@
-use mathlib.Core.Path.{_≡_, sym}
+use mathlib.Core.Path.{sym}
 use Prim.Native.Nat.{_+_}
 use native.Mathlib.Omega.{arith}
 use Rattle.seqs.specs.Capped.{capped-in, capped-over}
 use borrow.Author.Needs.{needs}
-use Rattle.geom.proofs.line.add_within.Statement.{statement}
-use Rattle.geom.proofs.line.add_within.Tie as tie
+use Rattle.geom.proofs.sewing.add_within.Statement.{statement}
+use Rattle.geom.proofs.sewing.add_within.Tie as tie
 
 returns : tie.Need-returns
 returns c = sym (capped-over (c .before .args .room) (c .before .args .c + c .before .args .s) (omega arith))
