@@ -1,7 +1,7 @@
 -- Sorting. A strict order has one ordered list of each collection, so every way to sort gives the definition's list. Assumes nothing.
-use mathlib.Core.Path.{_≡_, refl, sym, ap, _∙_, subst}
+use mathlib.Core.Path.{_≡_, refl, sym, ap, _∙_}
 use mathlib.Core.Bool.{Bool, true, false, _&&_, cond}
-use mathlib.Core.Logic.{_⊎_, inl, inr}
+use mathlib.Core.Logic.{inl, inr}
 use mathlib.Core.List.{List, [], _∷_, _++_, append-nil, List·Permᴰ, List·Permᴰ·nil, List·Permᴰ·cons, List·Permᴰ·swap, List·Permᴰ·trans, Permᴰ·refl, Permᴰ·symm, Permᴰ·middle, Permᴰ·append-left}
 use Prim.Native.Nat.{ℕ, suc}
 use lib.ListN.{length}
@@ -45,11 +45,10 @@ module _ {ℓ} {A : Type ℓ} where
 module _ {ℓ} {A : Type ℓ} (le : A → A → Bool) (total : (a b : A) → le a b ≡ false → le b a ≡ true) (trans : (a b c : A) → le a b ≡ true → le b c ≡ true → le a c ≡ true) where
   pub insert-ordered : (a : A) (l : List A) → Ordered le l → Ordered le (insertBy le a l)
   insert-ordered a [] h = (tt, tt)
-  insert-ordered a (b ∷ l) h = go (either (le a b)) (insert-ordered a l (h .1))
-    where
-      go : (le a b ≡ true) ⊎ (le a b ≡ false) → Ordered le (insertBy le a l) → Ordered le (insertBy le a (b ∷ l))
-      go (inl e) k = rw e ((e, all-map (λ c t. trans a b c e t) l (h .0)), h)
-      go (inr e) k = rw e (all-perm (λ c. le b c ≡ true) (Permᴰ·symm (insert-perm le a l)) (total a b e, h .0), k)
+  insert-ordered a (b ∷ l) h = elim (either (le a b)) [
+    | inl e ↦ rw e ((e, all-map (λ c t. trans a b c e t) l (h .0)), h)
+    | inr e ↦ rw e (all-perm (λ c. le b c ≡ true) (Permᴰ·symm (insert-perm le a l)) (total a b e, h .0), insert-ordered a l (h .1))
+  ]
 
   pub sort-ordered : (l : List A) → Ordered le (sortBy le l)
   sort-ordered [] = tt
@@ -69,13 +68,16 @@ module _ {ℓ} {A : Type ℓ} (le : A → A → Bool) (o : Strict le) where
 
   insert-comm : (a b : A) (l : List A) → insertBy le a (insertBy le b l) ≡ insertBy le b (insertBy le a l)
   insert-comm a b [] = two a b [] (le a b) (le b a) (o .total a b) (o .same a b)
-  insert-comm a b (c ∷ l) = go (insert-comm a b l) (either (le a c)) (either (le b c))
-    where
-      go : insertBy le a (insertBy le b l) ≡ insertBy le b (insertBy le a l) → (le a c ≡ true) ⊎ (le a c ≡ false) → (le b c ≡ true) ⊎ (le b c ≡ false) → insertBy le a (insertBy le b (c ∷ l)) ≡ insertBy le b (insertBy le a (c ∷ l))
-      go ih (inl p) (inl q) = simp (p, q) (two a b (c ∷ l) (le a b) (le b a) (o .total a b) (o .same a b))
-      go ih (inl p) (inr q) = simp (p, q, ahead a b c p q)
-      go ih (inr p) (inl q) = simp (p, q, ahead b a c q p)
-      go ih (inr p) (inr q) = simp (p, q) (ap (λ r. c ∷ r) ih)
+  insert-comm a b (c ∷ l) = elim (either (le a c)) [
+    | inl p ↦ elim (either (le b c)) [
+      | inl q ↦ simp (p, q) (two a b (c ∷ l) (le a b) (le b a) (o .total a b) (o .same a b))
+      | inr q ↦ simp (p, q, ahead a b c p q)
+    ]
+    | inr p ↦ elim (either (le b c)) [
+      | inl q ↦ simp (p, q, ahead b a c q p)
+      | inr q ↦ simp (p, q) (ap (λ r. c ∷ r) (insert-comm a b l))
+    ]
+  ]
 
   -- the order in which the elements came doesn't matter
   pub sort-same : {l m : List A} → List·Permᴰ l m → sortBy le l ≡ sortBy le m
@@ -106,11 +108,10 @@ module _ {ℓ} {A : Type ℓ} (le : A → A → Bool) (o : Strict le) where
   -- insertion from the back
   pub back-is : (a : A) (l : List A) → Ordered le l → insertBack le a l ≡ insertBy le a l
   back-is a [] h = refl
-  back-is a (b ∷ l) h = go (either (le a b)) (back-is a l (h .1))
-    where
-      go : (le a b ≡ true) ⊎ (le a b ≡ false) → insertBack le a l ≡ insertBy le a l → insertBack le a (b ∷ l) ≡ insertBy le a (b ∷ l)
-      go (inl e) ih = rw (e, all-every (le a) l (all-map (λ c t. o .trans a b c e t) l (h .0)))
-      go (inr e) ih = rw e (ap (λ r. b ∷ r) ih)
+  back-is a (b ∷ l) h = elim (either (le a b)) [
+    | inl e ↦ rw (e, all-every (le a) l (all-map (λ c t. o .trans a b c e t) l (h .0)))
+    | inr e ↦ rw e (ap (λ r. b ∷ r) (back-is a l (h .1)))
+  ]
 
   pub backs-are : (s l : List A) → Ordered le s → fold (insertBack le) s l ≡ sortBy le (l ++ s)
   backs-are s [] h = sym (sort-of-ordered s h)

@@ -1,7 +1,7 @@
 -- Laws of `takeWhile` and `dropWhile`: a list cut where a test first fails. Assumes nothing.
-use mathlib.Core.Path.{_≡_, refl, sym, ap, _∙_}
-use mathlib.Core.Bool.{Bool, true, false, cond}
-use mathlib.Core.Logic.{_⊎_, inl, inr}
+use mathlib.Core.Path.{_≡_, refl, sym, ap}
+use mathlib.Core.Bool.{Bool, true, false}
+use mathlib.Core.Logic.{inl, inr}
 use mathlib.Core.List.{List, [], _∷_, _++_}
 use Prim.Native.Nat.{ℕ, zero, suc, _≤_, _<_}
 use native.Mathlib.Omega.{arith}
@@ -14,28 +14,16 @@ use Rattle.seqs.specs.Sift.{sift-none}
 module _ {ℓ} {A : Type ℓ} (p : A → Bool) where
   pub while-split : (l : List A) → takeWhile p l ++ dropWhile p l ≡ l
   while-split [] = refl
-  while-split (a ∷ l) = go (p a) (while-split l)
-    where
-      go : (t : Bool) → takeWhile p l ++ dropWhile p l ≡ l → cond t (a ∷ takeWhile p l) [] ++ cond t (dropWhile p l) (a ∷ l) ≡ a ∷ l
-      go true e = ap (λ r. a ∷ r) e
-      go false e = refl
+  while-split (a ∷ l) = elim (either (p a)) [ inl e ↦ rw e (ap (λ r. a ∷ r) (while-split l)) | inr e ↦ rw e ]
 
   pub while-pass : (l : List A) → All (λ a. p a ≡ true) (takeWhile p l)
   while-pass [] = tt
-  while-pass (a ∷ l) = go (either (p a)) (while-pass l)
-    where
-      go : (p a ≡ true) ⊎ (p a ≡ false) → All (λ a. p a ≡ true) (takeWhile p l) → All (λ a. p a ≡ true) (takeWhile p (a ∷ l))
-      go (inl e) h = rw e (e, h)
-      go (inr e) h = rw e tt
+  while-pass (a ∷ l) = elim (either (p a)) [ inl e ↦ rw e (e, while-pass l) | inr e ↦ rw e tt ]
 
   -- in a list where what passes is never behind what does not, the first that pass are all that pass
   pub while-sift : (l : List A) → Sorted (λ a b. p b ≡ true → p a ≡ true) l → takeWhile p l ≡ sift p l
   while-sift [] h = refl
-  while-sift (a ∷ l) h = go (either (p a)) (while-sift l (h .1))
-    where
-      go : (p a ≡ true) ⊎ (p a ≡ false) → takeWhile p l ≡ sift p l → takeWhile p (a ∷ l) ≡ sift p (a ∷ l)
-      go (inl e) k = rw e (ap (λ r. a ∷ r) k)
-      go (inr e) k = rw e (sym (sift-none p l (all-map (λ b f. refute (p b) (λ t. clash (f t) e)) l (h .0))))
+  while-sift (a ∷ l) h = elim (either (p a)) [ inl e ↦ rw e (ap (λ r. a ∷ r) (while-sift l (h .1))) | inr e ↦ rw e (sym (sift-none p l (all-map (λ b f. refute (p b) (λ t. clash (f t) e)) l (h .0)))) ]
 
   -- the place k where the list is cut
   pub while-at : (l : List A) (k : ℕ) (z : A) → k ≤ length l → All (λ a. p a ≡ true) (take k l) → (k < length l → p (getD l k z) ≡ false) → (takeWhile p l ≡ take k l) × (dropWhile p l ≡ drop k l)
@@ -46,8 +34,4 @@ module _ {ℓ} {A : Type ℓ} (p : A → Bool) where
 
   pub sorted-while {κ} : (R : A → A → Type κ) (l : List A) → Sorted R l → Sorted R (dropWhile p l)
   sorted-while R [] h = tt
-  sorted-while R (a ∷ l) h = go (p a) (sorted-while R l (h .1))
-    where
-      go : (t : Bool) → Sorted R (dropWhile p l) → Sorted R (cond t (dropWhile p l) (a ∷ l))
-      go true k = k
-      go false k = h
+  sorted-while R (a ∷ l) h = elim (either (p a)) [ inl e ↦ rw e (sorted-while R l (h .1)) | inr e ↦ rw e h ]
