@@ -1,0 +1,4 @@
+-- What sewing reads and leaves (Sewing), and what is proved of it.
+pub mod Sewing
+pub mod Flat
+pub mod LinkLaws
