@@ -2,3 +2,5 @@
 pub mod Sewing
 pub mod Flat
 pub mod LinkLaws
+pub mod RowLaws
+pub mod SewLaws

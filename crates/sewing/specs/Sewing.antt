@@ -12,13 +12,13 @@ use mir.Val.{SFits}
 use Rattle.leaves.specs.Num.{_⊕_, _⊖_, _⊗_, _⊘_, real, literal}
 use Rattle.leaves.specs.Order.{smaller}
 use Rattle.leaves.specs.Whole.{floor, ceil}
-use Rattle.seqs.specs.Lists.{upto}
+use Rattle.seqs.specs.Lists.{upto, each}
 use Rattle.seqs.specs.Slices.{capped}
 use Rattle.geom.specs.declared.point.P.{P}
 use Rattle.geom.specs.Point.{point, rotate, lerp, dist}
 use Rattle.rules.specs.declared.Settings.{Settings}
 use Rattle.rules.specs.declared.Entry.{Entry}
-use Rattle.rules.specs.Fill.{howMany, offset, section}
+use Rattle.rules.specs.Fill.{howMany, offset, section, rowPoints, sewFrom}
 use Rattle.sewing.specs.declared.Field.{Field}
 use Rattle.sewing.specs.declared.row.Row.{Row}
 
@@ -88,24 +88,35 @@ most = 9223372036854775807
 abbrev pub forward : Entry → Bool
 forward e = eqb (e .nth % 2) 0
 
--- where a piece's row starts
+-- where a piece's row starts, and where it ends
 abbrev pub startOf : Entry → P
 startOf e = point (cond (forward e) (e .piece .xa) (e .piece .xb)) (e .piece .y)
+
+abbrev pub endOf : Entry → P
+endOf e = point (cond (forward e) (e .piece .xb) (e .piece .xa)) (e .piece .y)
+
+-- the least first and last stitch of a row; the numbers of its first and last needle point
+abbrev pub minEnd : Float → Float
+minEnd len = smaller (len ⊗ literal 1 4) (literal 5 1)
+
+abbrev pub lowest : Float → Float → Float → ℤ
+lowest len off xa = toSigned 63 (ceil ((xa ⊕ minEnd len ⊖ off) ⊘ len))
+
+abbrev pub highest : Float → Float → Float → ℤ
+highest len off xb = toSigned 63 (floor ((xb ⊖ minEnd len ⊖ off) ⊘ len))
 
 unfoldable pub rowOf : Settings → ℕ → Entry → Row
 rowOf g stagger e =
     let p = e .piece in
     let off = offset g stagger (p .k) in
-    let minEnd = smaller (g .len ⊗ literal 1 4) (literal 5 1) in
-    let m0 = toSigned 63 (ceil ((p .xa ⊕ minEnd ⊖ off) ⊘ g .len)) in
-    let m1 = toSigned 63 (floor ((p .xb ⊖ minEnd ⊖ off) ⊘ g .len)) in
+    let m0 = lowest (g .len) off (p .xa) in
     record {
       y = p .y;
       first = cond (forward e) (p .xa) (p .xb);
       last = cond (forward e) (p .xb) (p .xa);
       off = off;
       m0 = m0;
-      n = capped most (howMany m0 m1);
+      n = capped most (howMany m0 (highest (g .len) off (p .xb)));
       forward = forward e;
     }
 
@@ -135,6 +146,14 @@ cuts len p q = toUnsigned 64 (ceil (dist p q ⊘ len)) - 1
 unfoldable pub way : P → P → ℕ → List P
 way p q n = map (λ i. lerp p q (real (pos i) ⊘ real (pos (n + 1)))) (upto 1 n)
 
+-- the points of a gap: those on the way, and q
+abbrev pub gap : P → P → ℕ → List P
+gap p q n = way p q n ++ (q ∷ [])
+
 -- turned back by (c, s)
 unfoldable pub back : Float → Float → List P → List P
 back c s ps = map (λ p. rotate p c s) ps
+
+-- the rows of these entries, sewn from where the pen is, turned back
+unfoldable pub sewnFrom : Settings → ℕ → P → List Entry → List P
+sewnFrom g stagger pen es = back (g .cosine) (g .sine) (sewFrom g pen (each (rowPoints g stagger) es))

@@ -1,4 +1,15 @@
 // A row's targets, by index.
+ghost use mathlib.Core.Path.{_≡_};
+ghost use Prim.Native.Nat.{_+_, _<_, _≤_, _^_};
+ghost use lib.IntN.{pos, _+ℤ_};
+ghost use mir.Syntax.{w64};
+ghost use mir.Val.{SFits};
+ghost use Rattle.leaves.specs.Num.{_⊕_, _⊗_, _⊘_, real};
+ghost use Rattle.seqs.specs.Slices.{capped};
+ghost use Rattle.rules.specs.Fill.{remEuclid, howMany};
+ghost use Rattle.sewing.specs.Sewing.{rowNumber, most, Near, needle, target};
+use leaves::of_i64;
+use leaves::of_u64;
 
 // `first`, then n needle points off + m * len from m0 on, left to right or back, then `last`.
 pub struct Row {
@@ -9,4 +20,60 @@ pub struct Row {
     pub m0: i64,
     pub n: u64,
     pub forward: bool,
+}
+
+// The never-negative remainder of a row number.
+pub fn remainder(k: i64, cycle: u64) -> u64
+    requires { ⌜ 0 < cycle ⌝ }
+    ensures { λ r. ⌜ r ≡ remEuclid k cycle ⌝ }
+{
+    if k >= 0 {
+        return (k as u64) % cycle;
+    }
+    cycle - 1 - ((-(k + 1)) as u64) % cycle
+}
+
+// How many whole numbers from lo to hi.
+pub fn reach(lo: i64, hi: i64) -> u64
+    ensures { λ r. ⌜ r ≡ capped most (howMany lo hi) ⌝ }
+{
+    if hi < lo {
+        return 0;
+    }
+    if lo >= 0 {
+        return ((hi - lo) as u64) + 1;
+    }
+    if hi < 0 {
+        return ((hi - lo) as u64) + 1;
+    }
+    let d = (hi as u64) + ((-(lo + 1)) as u64);
+    if d < 9223372036854775806 {
+        return d + 2;
+    }
+    9223372036854775808
+}
+
+// off + (m0 + i) * len
+fn needle_at(m0: i64, i: u64, off: f64, len: f64) -> f64
+    requires { ⌜ SFits w64 (m0 +ℤ pos i) × (i < 2 ^ 63) ⌝ }
+    ensures { λ r. ⌜ r ≡ off ⊕ real (m0 +ℤ pos i) ⊗ len ⌝ }
+{
+    off + of_i64(m0 + (i as i64)) * len
+}
+
+// Target r of n + 2, in the order sewn.
+pub fn target_at(w: Row, len: f64, r: u64) -> f64
+    requires { ⌜ Near w × (w .n < 2 ^ 63) ⌝ }
+    ensures { λ x. ⌜ x ≡ target len w r ⌝ }
+{
+    if r == 0 {
+        return w.first;
+    }
+    if r > w.n {
+        return w.last;
+    }
+    if w.forward {
+        return needle_at(w.m0, r - 1, w.off, len);
+    }
+    needle_at(w.m0, w.n - r, w.off, len)
 }
