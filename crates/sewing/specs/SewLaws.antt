@@ -27,7 +27,7 @@ use Rattle.rules.specs.declared.Piece.{Piece}
 use Rattle.rules.specs.declared.Entry.{Entry}
 use Rattle.rules.specs.Standin.{flat}
 use Rattle.rules.specs.Fill.{needles, rowPoints, between, sewFrom, sew, sewn}
-use Rattle.sewing.specs.Sewing.{forward, startOf, endOf, cuts, way, gap, back, sewnFrom}
+use Rattle.sewing.specs.Sewing.{forward, startOf, endOf, cuts, way, gap, cutsFor, back, sewnFrom}
 use Rattle.sewing.specs.RowLaws.{map-append}
 use Rattle.sewing.specs.Flat.{flat-length, flat-append}
 
@@ -41,7 +41,7 @@ pub gap-length : (p q : P) (n : ℕ) → length (gap p q n) ≡ n + 1
 gap-length p q n = length-append (way p q n) (q ∷ []) ∙ ap (λ k. k + 1) (way-length p q n)
 
 between-is : (g : Settings) (p q : P) → between g p q ≡ way p q (cuts (g .len) p q)
-unfolding between way cuts
+unfolding between way cuts cutsFor dist len
 between-is g p q = go (toUnsigned 64 (ceil (dist p q ⊘ g .len)))
   where
     go : (n : ℕ) → map (λ i. lerp p q (real (pos i) ⊘ real (pos n))) (upto 1 (n - 1)) ≡ map (λ i. lerp p q (real (pos i) ⊘ real (pos (n - 1 + 1)))) (upto 1 (n - 1))
@@ -187,7 +187,7 @@ none-of-zero (fin t n d) = elim (either (eqb n 0)) [
 ]
 
 pub cuts-self : (l : Float) (p : P) → cuts l p p ≡ 0
-unfolding cuts div parts-of toUnsigned ceil wholeOf
+unfolding cuts cutsFor dist len div parts-of toUnsigned ceil wholeOf
 cuts-self l p = elim (still p) [ inl e ↦ rw (e, none-of-zero l) | inr e ↦ rw e ]
 
 -- ---- a section, row by row

@@ -3,24 +3,26 @@ use Prim.Native.Nat.{ℕ, zero, suc, _+_, _-_, _*_, _%_, _^_, _≤_, _<_}
 use mathlib.Core.Path.{_≡_}
 use mathlib.Core.Bool.{Bool, true, false, cond}
 use mathlib.Core.List.{List, [], _∷_, _++_, map}
-use lib.Dec.{ltb, eqb}
+use lib.Dec.{T, ltb, eqb}
 use lib.IntN.{ℤ, pos, _+ℤ_, _-ℤ_}
 use lib.ListN.{length, take, drop, getD}
-use lib.Ieee.{Float, nan, toSigned, toUnsigned}
+use lib.Ieee.{Float, nan, binary64, fits, le, toSigned, toUnsigned}
 use mir.Syntax.{w64}
 use mir.Val.{SFits}
 use Rattle.leaves.specs.Num.{_⊕_, _⊖_, _⊗_, _⊘_, real, literal}
 use Rattle.leaves.specs.Order.{smaller}
+use Rattle.leaves.specs.Root.{root}
 use Rattle.leaves.specs.Whole.{floor, ceil}
 use Rattle.seqs.specs.Lists.{upto, each}
 use Rattle.seqs.specs.Slices.{capped}
 use Rattle.geom.specs.declared.point.P.{P}
-use Rattle.geom.specs.Point.{point, rotate, lerp, dist}
+use Rattle.geom.specs.Point.{point, rotate, lerp}
 use Rattle.rules.specs.declared.Settings.{Settings}
 use Rattle.rules.specs.declared.Entry.{Entry}
 use Rattle.rules.specs.Fill.{howMany, offset, section, rowPoints, sewFrom}
 use Rattle.sewing.specs.declared.Field.{Field}
 use Rattle.sewing.specs.declared.row.Row.{Row}
+use Rattle.sewing.specs.declared.stitch.Limits.{Limits}
 
 -- ---- the row list in the working slices
 
@@ -138,9 +140,22 @@ targets len w r left = map (λ i. point (target len w i) (w .y)) (upto r left)
 
 -- ---- gaps
 
+-- how many points cut a step whose squared length is d, worked in f64
+unfoldable pub cutsFor : Float → Float → ℕ
+cutsFor len d = toUnsigned 64 (ceil (root d ⊘ len)) - 1
+
+-- the squared length of the step from p to q
+abbrev pub square : P → P → Float
+square p q = (p .x ⊖ q .x) ⊗ (p .x ⊖ q .x) ⊕ (p .y ⊖ q .y) ⊗ (p .y ⊖ q .y)
+
 -- how many points cut the way from p to q
 unfoldable pub cuts : Float → P → P → ℕ
-cuts len p q = toUnsigned 64 (ceil (dist p q ⊘ len)) - 1
+cuts len p q = cutsFor len (square p q)
+
+-- squared lengths that decide with no root: up to `one` there is no cut, from `from` to `two` there is one
+pub record Decides (len : Float) (m : Limits) : Type 0 where
+  pub none : (d : Float) → T (fits binary64 d) → le d (m .one) ≡ true → cutsFor len d ≡ 0
+  pub once : (d : Float) → T (fits binary64 d) → le (m .from) d ≡ true → le d (m .two) ≡ true → cutsFor len d ≡ 1
 
 -- these points, n of them
 unfoldable pub way : P → P → ℕ → List P

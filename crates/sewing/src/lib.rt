@@ -1,5 +1,6 @@
 // From marked pieces to needle points: the pieces of each section linked, then counted, then sewn into the output.
 pub mod row;
+pub mod stitch;
 
 use rules::Settings;
 

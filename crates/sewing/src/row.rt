@@ -2,6 +2,7 @@
 ghost use mathlib.Core.Path.{_≡_};
 ghost use Prim.Native.Nat.{_+_, _<_, _≤_, _^_};
 ghost use lib.IntN.{pos, _+ℤ_};
+ghost use lib.Signed.{mag};
 ghost use mir.Syntax.{w64};
 ghost use mir.Val.{SFits};
 ghost use Rattle.leaves.specs.Num.{_⊕_, _⊗_, _⊘_, real};
@@ -22,31 +23,44 @@ pub struct Row {
     pub forward: bool,
 }
 
+// k, or where it is negative -(k + 1).
+fn size(k: i64) -> u64
+    ensures { λ r. ⌜ r ≡ mag k ⌝ }
+{
+    if k >= 0 {
+        return k as u64;
+    }
+    (-(k + 1)) as u64
+}
+
 // The never-negative remainder of a row number.
 pub fn remainder(k: i64, cycle: u64) -> u64
     requires { ⌜ 0 < cycle ⌝ }
     ensures { λ r. ⌜ r ≡ remEuclid k cycle ⌝ }
 {
+    let m = size(k) % cycle;
     if k >= 0 {
-        return (k as u64) % cycle;
+        return m;
     }
-    cycle - 1 - ((-(k + 1)) as u64) % cycle
+    cycle - 1 - m
 }
 
 // How many whole numbers from lo to hi.
-pub fn reach(lo: i64, hi: i64) -> u64
+fn reach(lo: i64, hi: i64) -> u64
     ensures { λ r. ⌜ r ≡ capped most (howMany lo hi) ⌝ }
 {
+    let a = size(lo);
+    let b = size(hi);
     if hi < lo {
         return 0;
     }
     if lo >= 0 {
-        return ((hi - lo) as u64) + 1;
+        return b - a + 1;
     }
     if hi < 0 {
-        return ((hi - lo) as u64) + 1;
+        return a - b + 1;
     }
-    let d = (hi as u64) + ((-(lo + 1)) as u64);
+    let d = a + b;
     if d < 9223372036854775806 {
         return d + 2;
     }

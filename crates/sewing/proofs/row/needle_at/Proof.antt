@@ -1,25 +1,22 @@
+-- One needle point. Assumes nothing.
+use mathlib.Core.Path.{_≡_, refl, sym, ap, _∙_}
+use native.Mathlib.Omega.{arith}
+use lib.IntN.{pos, _+ℤ_}
+use mir.Syntax.{w64}
+use mir.Val.{toZ, ofZ}
+use Rattle.sewing.proofs.Signs.{read, cast}
 use borrow.Author.Needs.{needs}
 use Rattle.sewing.proofs.row.needle_at.Statement.{statement}
 use Rattle.sewing.proofs.row.needle_at.Tie as tie
-use Rattle.sewing.proofs.row.needle_at.Reads as reads
-use Rattle.sewing.proofs.row.needle_at.Lts as lts
-use Rattle.leaves.proofs.of_i64.Reads as of-i64-reads
 
--- src/row.rt:61:24
-cast-of-i64 : tie.Need-cast-of-i64
-cast-of-i64 c = search needs
-
--- src/row.rt:61:18
 add-of-i64 : tie.Need-add-of-i64
-add-of-i64 c = ?
+add-of-i64 c = rw (read (c .args .m0) (c .fits .m0), cast (c .args .i) (c .pre .1)) (c .pre .0)
 
--- src/row.rt:61:11
-of-i64-requires : tie.Need-of-i64-requires
-of-i64-requires c κs = search needs
-
--- src/row.rt:57:1
 returns : tie.Need-returns
-returns c = ?
+returns c =
+    let e = rw (read (c .before .args .m0) (c .before .fits .m0), cast (c .before .args .i) (c .before .pre .1), read (c .before .args .m0 +ℤ pos (c .before .args .i)) (c .before .pre .0)) at (c .of-i64 .ensures) in
+    rw e
 
 pub needle-at-spec : {M : Type 1} → statement M
-needle-at-spec = tie.close (tie.spec cast-of-i64 add-of-i64 of-i64-requires returns)
+needle-at-spec =
+    tie.close (tie.spec (λ c. search needs) add-of-i64 (λ c κs. search needs) returns)

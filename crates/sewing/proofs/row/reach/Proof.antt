@@ -1,95 +1,103 @@
+-- How many whole numbers lie between two, by their signs. Assumes nothing.
+use mathlib.Core.Path.{_≡_, refl, sym, ap, _∙_}
+use Prim.Native.Nat.{_+_}
+use native.Mathlib.Omega.{arith}
+use lib.Signed.{mag}
+use Rattle.seqs.specs.Capped.{capped-in, capped-over}
+use Rattle.rules.specs.Fill.{howMany}
+use Rattle.sewing.specs.Sewing.{most}
+use Rattle.sewing.proofs.Signs.{read, reach-none, reach-up, reach-down, reach-over}
 use borrow.Author.Needs.{needs}
 use Rattle.sewing.proofs.row.reach.Statement.{statement}
 use Rattle.sewing.proofs.row.reach.Tie as tie
-use Rattle.sewing.proofs.row.reach.Reads as reads
-use Rattle.sewing.proofs.row.reach.Lts as lts
 
--- src/row.rt:41:9
 returns : tie.Need-returns
-returns c = ?
+returns c =
+    let p = read (c .before .before .before .args .lo) (c .before .before .before .fits .lo) in
+    let q = read (c .before .before .before .args .hi) (c .before .before .before .fits .hi) in
+    reach-none (c .before .before .before .args .lo) (c .before .before .before .args .hi) (rw (p, q) at (c .if1 .taken))
 
--- src/row.rt:44:18
 sub-result : tie.Need-sub-result
-sub-result c = ?
+sub-result c =
+    let p = read (c .before .before .before .before .args .lo) (c .before .before .before .before .fits .lo) in
+    let q = read (c .before .before .before .before .args .hi) (c .before .before .before .before .fits .hi) in
+    let a = rw p at (c .before .before .before .size .ensures) in
+    let b = rw q at (c .before .before .size2 .ensures) in
+    let r = reach-up (c .before .before .before .before .args .lo) (c .before .before .before .before .args .hi) (c .before .before .before .before .fits .hi) (rw (p, q) at (c .before .if1 .left)) (rw p at (c .if2 .taken)) in
+    omega (arith, a, b, r .0)
 
--- src/row.rt:44:17
-cast-result : tie.Need-cast-result
-cast-result c = ?
-
--- src/row.rt:44:16
 add-result : tie.Need-add-result
-add-result c = ?
+add-result c =
+    let p = read (c .before .before .before .before .args .lo) (c .before .before .before .before .fits .lo) in
+    let q = read (c .before .before .before .before .args .hi) (c .before .before .before .before .fits .hi) in
+    let a = rw p at (c .before .before .before .size .ensures) in
+    let b = rw q at (c .before .before .size2 .ensures) in
+    let r = reach-up (c .before .before .before .before .args .lo) (c .before .before .before .before .args .hi) (c .before .before .before .before .fits .hi) (rw (p, q) at (c .before .if1 .left)) (rw p at (c .if2 .taken)) in
+    omega (arith, a, b, r .0, c .before .before .before .before .fits .hi .sfits)
 
--- src/row.rt:44:9
 returns-2 : tie.Need-returns-2
-returns-2 c = ?
+returns-2 c =
+    let p = read (c .before .before .before .before .args .lo) (c .before .before .before .before .fits .lo) in
+    let q = read (c .before .before .before .before .args .hi) (c .before .before .before .before .fits .hi) in
+    let a = rw p at (c .before .before .before .size .ensures) in
+    let b = rw q at (c .before .before .size2 .ensures) in
+    let r = reach-up (c .before .before .before .before .args .lo) (c .before .before .before .before .args .hi) (c .before .before .before .before .fits .hi) (rw (p, q) at (c .before .if1 .left)) (rw p at (c .if2 .taken)) in
+    rw (a, b) (r .1)
 
--- src/row.rt:47:18
 sub-result-2 : tie.Need-sub-result-2
-sub-result-2 c = ?
+sub-result-2 c =
+    let p = read (c .before .before .before .before .before .args .lo) (c .before .before .before .before .before .fits .lo) in
+    let q = read (c .before .before .before .before .before .args .hi) (c .before .before .before .before .before .fits .hi) in
+    let a = rw p at (c .before .before .before .before .size .ensures) in
+    let b = rw q at (c .before .before .before .size2 .ensures) in
+    let r = reach-down (c .before .before .before .before .before .args .lo) (c .before .before .before .before .before .args .hi) (c .before .before .before .before .before .fits .lo) (rw (p, q) at (c .before .before .if1 .left)) (rw q at (c .if3 .taken)) in
+    omega (arith, a, b, r .0)
 
--- src/row.rt:47:17
-cast-result-2 : tie.Need-cast-result-2
-cast-result-2 c = ?
-
--- src/row.rt:47:16
 add-result-2 : tie.Need-add-result-2
-add-result-2 c = ?
+add-result-2 c =
+    let p = read (c .before .before .before .before .before .args .lo) (c .before .before .before .before .before .fits .lo) in
+    let q = read (c .before .before .before .before .before .args .hi) (c .before .before .before .before .before .fits .hi) in
+    let a = rw p at (c .before .before .before .before .size .ensures) in
+    let b = rw q at (c .before .before .before .size2 .ensures) in
+    let r = reach-down (c .before .before .before .before .before .args .lo) (c .before .before .before .before .before .args .hi) (c .before .before .before .before .before .fits .lo) (rw (p, q) at (c .before .before .if1 .left)) (rw q at (c .if3 .taken)) in
+    omega (arith, a, b, r .0, c .before .before .before .before .before .fits .lo .sfits)
 
--- src/row.rt:47:9
 returns-3 : tie.Need-returns-3
-returns-3 c = ?
+returns-3 c =
+    let p = read (c .before .before .before .before .before .args .lo) (c .before .before .before .before .before .fits .lo) in
+    let q = read (c .before .before .before .before .before .args .hi) (c .before .before .before .before .before .fits .hi) in
+    let a = rw p at (c .before .before .before .before .size .ensures) in
+    let b = rw q at (c .before .before .before .size2 .ensures) in
+    let r = reach-down (c .before .before .before .before .before .args .lo) (c .before .before .before .before .before .args .hi) (c .before .before .before .before .before .fits .lo) (rw (p, q) at (c .before .before .if1 .left)) (rw q at (c .if3 .taken)) in
+    rw (a, b) (r .1)
 
--- src/row.rt:49:14
-cast-d : tie.Need-cast-d
-cast-d c = ?
-
--- src/row.rt:49:31
 add-d : tie.Need-add-d
-add-d c = ?
+add-d c =
+    let p = read (c .before .before .before .before .before .args .lo) (c .before .before .before .before .before .fits .lo) in
+    let q = read (c .before .before .before .before .before .args .hi) (c .before .before .before .before .before .fits .hi) in
+    let a = rw p at (c .before .before .before .before .size .ensures) in
+    let b = rw q at (c .before .before .before .size2 .ensures) in
+    omega (arith, a, b, c .before .before .before .before .before .fits .lo .sfits, c .before .before .before .before .before .fits .hi .sfits)
 
--- src/row.rt:49:29
-sub-d : tie.Need-sub-d
-sub-d c = ?
-
--- src/row.rt:49:28
-cast-d-2 : tie.Need-cast-d-2
-cast-d-2 c = ?
-
--- src/row.rt:49:13
-add-d-2 : tie.Need-add-d-2
-add-d-2 c = ?
-
--- src/row.rt:51:16
-add-result-3 : tie.Need-add-result-3
-add-result-3 c = search needs
-
--- src/row.rt:51:9
 returns-4 : tie.Need-returns-4
-returns-4 c = ?
+returns-4 c =
+    let p = read (c .before .before .before .before .before .before .args .lo) (c .before .before .before .before .before .before .fits .lo) in
+    let q = read (c .before .before .before .before .before .before .args .hi) (c .before .before .before .before .before .before .fits .hi) in
+    let a = rw p at (c .before .before .before .before .before .size .ensures) in
+    let b = rw q at (c .before .before .before .before .size2 .ensures) in
+    let r = reach-over (c .before .before .before .before .before .before .args .lo) (c .before .before .before .before .before .before .args .hi) (rw p at (c .before .before .if2 .left)) (rw q at (c .before .if3 .left)) in
+    let e : c .before .before .before .before .before .size .result + c .before .before .before .before .size2 .result + 2 ≡ howMany (c .before .before .before .before .before .before .args .lo) (c .before .before .before .before .before .before .args .hi) = omega (arith, a, b, r) in
+    rw e (sym (capped-in most (howMany (c .before .before .before .before .before .before .args .lo) (c .before .before .before .before .before .before .args .hi)) (omega (arith, e, c .if4 .taken))))
 
--- src/row.rt:37:1
 returns-5 : tie.Need-returns-5
-returns-5 c = ?
+returns-5 c =
+    let p = read (c .before .before .before .before .before .before .args .lo) (c .before .before .before .before .before .before .fits .lo) in
+    let q = read (c .before .before .before .before .before .before .args .hi) (c .before .before .before .before .before .before .fits .hi) in
+    let a = rw p at (c .before .before .before .before .before .size .ensures) in
+    let b = rw q at (c .before .before .before .before .size2 .ensures) in
+    let r = reach-over (c .before .before .before .before .before .before .args .lo) (c .before .before .before .before .before .before .args .hi) (rw p at (c .before .before .if2 .left)) (rw q at (c .before .if3 .left)) in
+    sym (capped-over most (howMany (c .before .before .before .before .before .before .args .lo) (c .before .before .before .before .before .before .args .hi)) (omega (arith, a, b, r, c .if4 .left)))
 
 pub reach-spec : {M : Type 1} → statement M
 reach-spec =
-    tie.close
-    (tie.spec
-    returns
-    sub-result
-    cast-result
-    add-result
-    returns-2
-    sub-result-2
-    cast-result-2
-    add-result-2
-    returns-3
-    cast-d
-    add-d
-    sub-d
-    cast-d-2
-    add-d-2
-    add-result-3
-    returns-4
-    returns-5)
+    tie.close (tie.spec (λ c κs. search needs) (λ c κs. search needs) returns sub-result add-result returns-2 sub-result-2 add-result-2 returns-3 add-d (λ c. search needs) returns-4 returns-5)

@@ -1,46 +1,49 @@
+-- A target, by its index. Assumes nothing.
+use mathlib.Core.Path.{_≡_, refl, sym, ap, _∙_}
+use Prim.Native.Nat.{_-_}
+use native.Mathlib.Omega.{arith}
+use lib.IntN.{pos, _+ℤ_}
+use borrow.Author.Tests.{lt-ltb, le-ltb, eq-eqb, ne-eqb}
+use Rattle.sewing.specs.Sewing.{target}
+use Rattle.sewing.proofs.Signs.{read, first-fits}
 use borrow.Author.Needs.{needs}
 use Rattle.sewing.proofs.row.target_at.Statement.{statement}
 use Rattle.sewing.proofs.row.target_at.Tie as tie
-use Rattle.sewing.proofs.row.target_at.Reads as reads
-use Rattle.sewing.proofs.row.target_at.Lts as lts
-use Rattle.sewing.proofs.row.needle_at.Reads as needle-at-reads
 
--- src/row.rt:70:9
 returns : tie.Need-returns
-returns c = ?
+unfolding target
+returns c = rw (eq-eqb _ _ (c .if1 .taken))
 
--- src/row.rt:73:9
 returns-2 : tie.Need-returns-2
-returns-2 c = ?
+unfolding target
+returns-2 c = rw (ne-eqb _ _ (c .before .before .if1 .left), lt-ltb _ _ (c .if2 .taken))
 
--- src/row.rt:76:32
-sub-needle-at : tie.Need-sub-needle-at
-sub-needle-at c = search needs
-
--- src/row.rt:76:9
 needle-at-requires : tie.Need-needle-at-requires
-needle-at-requires c κs = ?
+needle-at-requires c κs =
+    let w = c .before .before .before .before .before .args .w in
+    let z = read (w .m0) (first-fits w (omega arith) (c .before .before .before .before .before .pre .0)) in
+    rw z (c .before .before .before .before .before .pre .0 (c .before .before .before .before .before .args .r - 1) (omega arith), omega (arith, c .before .before .before .before .before .pre .1))
 
--- src/row.rt:76:9
 returns-3 : tie.Need-returns-3
-returns-3 c = ?
+unfolding target
+returns-3 c =
+    let w = c .before .before .before .before .before .before .args .w in
+    let z = read (w .m0) (first-fits w (omega arith) (c .before .before .before .before .before .before .pre .0)) in
+    rw (ne-eqb _ _ (c .before .before .before .before .before .if1 .left), le-ltb _ _ (c .before .before .before .if2 .left), c .before .before .if3 .taken) (rw z at (c .needle-at .ensures))
 
--- src/row.rt:78:5
 needle-at-requires-2 : tie.Need-needle-at-requires-2
-needle-at-requires-2 c κs = ?
+needle-at-requires-2 c κs =
+    let w = c .before .before .before .before .before .before .args .w in
+    let z = read (w .m0) (first-fits w (omega arith) (c .before .before .before .before .before .before .pre .0)) in
+    rw z (c .before .before .before .before .before .before .pre .0 (w .n - c .before .before .before .before .before .before .args .r) (omega arith), omega (arith, c .before .before .before .before .before .before .pre .1))
 
--- src/row.rt:65:1
 returns-4 : tie.Need-returns-4
-returns-4 c = ?
+unfolding target
+returns-4 c =
+    let w = c .before .before .before .before .before .before .before .args .w in
+    let z = read (w .m0) (first-fits w (omega arith) (c .before .before .before .before .before .before .before .pre .0)) in
+    rw (ne-eqb _ _ (c .before .before .before .before .before .before .if1 .left), le-ltb _ _ (c .before .before .before .before .if2 .left), c .before .before .before .if3 .left) (rw z at (c .needle-at2 .ensures))
 
 pub target-at-spec : {M : Type 1} → statement M
 target-at-spec =
-    tie.close
-    (tie.spec
-    returns
-    returns-2
-    sub-needle-at
-    needle-at-requires
-    returns-3
-    needle-at-requires-2
-    returns-4)
+    tie.close (tie.spec returns returns-2 (λ c. search needs) needle-at-requires returns-3 needle-at-requires-2 returns-4)

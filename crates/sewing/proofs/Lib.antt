@@ -1,0 +1,2 @@
+-- The mathematics of the crate's functions.
+pub mod Signs

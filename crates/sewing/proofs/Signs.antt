@@ -1,0 +1,100 @@
+-- Signed numbers by their sign: how many lie between two, remainders, and sums that fit. Assumes nothing.
+use mathlib.Core.Path.{_≡_, refl, sym, ap, _∙_}
+use mathlib.Core.Bool.{Bool, true, false, cond}
+use Prim.Native.Nat.{ℕ, zero, suc, _+_, _-_, _*_, _%_, _^_, _<_, _≤_}
+use native.Mathlib.Omega.{arith}
+use lib.Dec.{T, leb, ltb, leb·zero}
+use lib.IntN.{ℤ, pos, negsuc, _+ℤ_, _-ℤ_, sucℤ, natAbs, +ℤ-one, +ℤ-idl, +ℤ-idr}
+use lib.Signed.{mag, leZ, ltZ, nonNeg}
+use borrow.Author.Tests.{leb-true, leb-false, ltb-true, ltb-false, le-leb, lt-leb, lt-ltb, le-ltb}
+use mir.Syntax.{w64}
+use mir.Val.{SFits, toZ, ofZ}
+use mir.ValLaws.{toZ-ofZ}
+use mathlib.Core.Logic.{inl, inr}
+use Rattle.seqs.specs.Tests.{clash}
+use Rattle.seqs.specs.Slices.{capped}
+use Rattle.seqs.specs.Capped.{capped-in, capped-over, capped-cases}
+use Rattle.rules.specs.Fill.{howMany, remEuclid}
+use Rattle.sewing.specs.declared.row.Row.{Row}
+use Rattle.sewing.specs.Sewing.{most, Near}
+
+-- the machine's reading of a number that fits
+pub read : (z : ℤ) → SFits w64 z → toZ w64 (ofZ w64 z) ≡ z
+read z f = toZ-ofZ w64 z f
+
+-- an unsigned number that fits, cast
+pub cast : (n : ℕ) → n < 2 ^ 63 → toZ w64 n ≡ pos n
+cast n h = read (pos n) (record { sfits = h })
+
+-- a row with a needle point has the number of the first
+pub first-fits : (w : Row) → 0 < w .n → Near w → SFits w64 (w .m0)
+first-fits w h f = rw (+ℤ-idr (w .m0)) at (f 0 h)
+
+-- ---- size
+
+pub size-up : (k : ℤ) → leZ (pos 0) k ≡ true → T (nonNeg k) × (natAbs k ≡ mag k)
+size-up (pos a) h = (tt, refl)
+size-up (negsuc a) h = clash h refl
+
+pub up-fits : (k : ℤ) → SFits w64 k → leZ (pos 0) k ≡ false → SFits w64 (k +ℤ pos 1)
+up-fits (pos a) f h = clash (leb·zero a) h
+up-fits (negsuc zero) f h = record { sfits = omega arith }
+up-fits (negsuc (suc a)) f h = rw (+ℤ-one (negsuc (suc a))) (record { sfits = omega (arith, f .sfits) })
+
+pub size-down : (k : ℤ) → leZ (pos 0) k ≡ false → pos 0 -ℤ (k +ℤ pos 1) ≡ pos (mag k)
+size-down (pos a) h = clash (leb·zero a) h
+size-down (negsuc zero) h = refl
+size-down (negsuc (suc a)) h = rw (+ℤ-one (negsuc (suc a))) (+ℤ-idl (pos (suc a)))
+
+-- ---- remainders
+
+pub rem-up : (k : ℤ) (n : ℕ) → leZ (pos 0) k ≡ true → mag k % n ≡ remEuclid k n
+unfolding remEuclid
+rem-up (pos a) n h = refl
+rem-up (negsuc a) n h = clash h refl
+
+pub rem-down : (k : ℤ) (n : ℕ) → leZ (pos 0) k ≡ false → n - 1 - mag k % n ≡ remEuclid k n
+unfolding remEuclid
+rem-down (pos a) n h = clash (leb·zero a) h
+rem-down (negsuc a) n h = refl
+
+-- ---- how many from lo to hi
+
+capped-to : (n : ℕ) → n ≤ most + 1 → n ≡ capped most n
+capped-to n h = elim (capped-cases most n) [ inl c ↦ sym (c .1) | inr c ↦ omega (arith, c .0, c .1) ]
+
+natAbs-less : (a b : ℕ) → a ≤ b → natAbs (pos b -ℤ pos a) ≡ b - a
+natAbs-less zero b h = omega arith
+natAbs-less (suc a) b h = rw (le-ltb b (suc a) h) (omega arith)
+
+natAbs-more : (a b : ℕ) → b ≤ a → natAbs (negsuc b -ℤ negsuc a) ≡ a - b
+natAbs-more a b h = rw (le-ltb (suc a) (suc b) (omega arith)) (omega arith)
+
+pub reach-none : (lo hi : ℤ) → ltZ hi lo ≡ true → 0 ≡ capped most (howMany lo hi)
+unfolding howMany
+reach-none (pos a) (pos b) h = rw (lt-leb a b (ltb-true b a h)) (sym (capped-in most 0 (omega arith)))
+reach-none (pos a) (negsuc b) h = sym (capped-in most 0 (omega arith))
+reach-none (negsuc a) (pos b) h = clash h refl
+reach-none (negsuc a) (negsuc b) h = rw (lt-leb b a (ltb-true a b h)) (sym (capped-in most 0 (omega arith)))
+
+pub reach-up : (lo hi : ℤ) → SFits w64 hi → ltZ hi lo ≡ false → leZ (pos 0) lo ≡ true → (mag lo ≤ mag hi) × (mag hi - mag lo + 1 ≡ capped most (howMany lo hi))
+unfolding howMany
+reach-up (pos a) (pos b) f h k =
+    let l = ltb-false b a h in
+    (l, rw (le-leb a b l, natAbs-less a b l) (capped-to (b - a + 1) (omega (arith, f .sfits))))
+reach-up (pos a) (negsuc b) f h k = clash refl h
+reach-up (negsuc a) hi f h k = clash k refl
+
+pub reach-down : (lo hi : ℤ) → SFits w64 lo → ltZ hi lo ≡ false → ltZ hi (pos 0) ≡ true → (mag hi ≤ mag lo) × (mag lo - mag hi + 1 ≡ capped most (howMany lo hi))
+unfolding howMany
+reach-down lo (pos b) f h k = clash k (le-ltb b 0 (omega arith))
+reach-down (pos a) (negsuc b) f h k = clash refl h
+reach-down (negsuc a) (negsuc b) f h k =
+    let l = ltb-false a b h in
+    (l, rw (le-leb b a l, natAbs-more a b l) (capped-to (a - b + 1) (omega (arith, f .sfits))))
+
+pub reach-over : (lo hi : ℤ) → leZ (pos 0) lo ≡ false → ltZ hi (pos 0) ≡ false → howMany lo hi ≡ mag lo + mag hi + 2
+unfolding howMany
+reach-over (pos a) hi h k = clash (leb·zero a) h
+reach-over (negsuc a) (negsuc b) h k = clash refl k
+reach-over (negsuc a) (pos b) h k = omega arith
