@@ -1,2 +1,3 @@
 -- The mathematics of the crate's functions.
 pub mod Signs
+pub mod Loops

@@ -69,6 +69,10 @@ module _ (len : Float) (w : Row) where
   unfolding targets
   targets-none r m h = rw (upto-none m r h)
 
+  pub targets-length : (r left : ℕ) → length (targets len w r left) ≡ left
+  unfolding targets
+  targets-length r left = length-map (upto r left) (λ i. point (target len w i) (w .y)) ∙ upto-length r left
+
   -- the first, those between, and the last
   parts : targets len w 0 (w .n + 2) ≡ point (w .first) (w .y) ∷ (map at (upto 1 (w .n)) ++ (point (w .last) (w .y) ∷ []))
   unfolding targets target at

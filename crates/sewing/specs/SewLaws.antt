@@ -27,7 +27,7 @@ use Rattle.rules.specs.declared.Piece.{Piece}
 use Rattle.rules.specs.declared.Entry.{Entry}
 use Rattle.rules.specs.Standin.{flat}
 use Rattle.rules.specs.Fill.{needles, rowPoints, between, sewFrom, sew, sewn}
-use Rattle.sewing.specs.Sewing.{forward, startOf, endOf, cuts, way, gap, cutsFor, back, sewnFrom}
+use Rattle.sewing.specs.Sewing.{forward, startOf, endOf, cuts, way, gap, cutsFor, sewTo, back, sewnFrom}
 use Rattle.sewing.specs.RowLaws.{map-append}
 use Rattle.sewing.specs.Flat.{flat-length, flat-append}
 
@@ -48,23 +48,29 @@ between-is g p q = go (toUnsigned 64 (ceil (dist p q ⊘ g .len)))
     go zero = refl
     go (suc n) = let e : suc n - 1 + 1 ≡ suc n = omega arith in rw e
 
+-- of the settings only len counts
+pub sew-is : (g : Settings) (p : P) (qs : List P) → sewFrom g p qs ≡ sewTo (g .len) p qs
+unfolding sewFrom sewTo
+sew-is g p [] = refl
+sew-is g p (q ∷ qs) = (λ i. between-is g p q i ++ (q ∷ sew-is g q qs i)) ∙ sym (append-assoc (way p q (cuts (g .len) p q)) (q ∷ []) (sewTo (g .len) q qs))
+
 -- one more point is sewn
-pub sew-next : (g : Settings) (p q : P) (qs : List P) → sewFrom g p (q ∷ qs) ≡ gap p q (cuts (g .len) p q) ++ sewFrom g q qs
-unfolding sewFrom
-sew-next g p q qs = ap (λ l. l ++ (q ∷ sewFrom g q qs)) (between-is g p q) ∙ sym (append-assoc (way p q (cuts (g .len) p q)) (q ∷ []) (sewFrom g q qs))
+module _ (l : Float) where
+  pub sew-next : (p q : P) (qs : List P) → sewTo l p (q ∷ qs) ≡ gap p q (cuts l p q) ++ sewTo l q qs
+  unfolding sewTo
+  sew-next p q qs = refl
 
-pub sew-count : (g : Settings) (p q : P) (qs : List P) → length (sewFrom g p (q ∷ qs)) ≡ cuts (g .len) p q + 1 + length (sewFrom g q qs)
-sew-count g p q qs = ap length (sew-next g p q qs) ∙ length-append (gap p q (cuts (g .len) p q)) (sewFrom g q qs) ∙ ap (λ k. k + length (sewFrom g q qs)) (gap-length p q (cuts (g .len) p q))
+  pub sew-count : (p q : P) (qs : List P) → length (sewTo l p (q ∷ qs)) ≡ cuts l p q + 1 + length (sewTo l q qs)
+  sew-count p q qs = ap length (sew-next p q qs) ∙ length-append (gap p q (cuts l p q)) (sewTo l q qs) ∙ ap (λ k. k + length (sewTo l q qs)) (gap-length p q (cuts l p q))
 
-pub sew-none : (g : Settings) (p : P) → sewFrom g p [] ≡ []
-unfolding sewFrom
-sew-none g p = refl
+  pub sew-none : (p : P) → sewTo l p [] ≡ []
+  unfolding sewTo
+  sew-none p = refl
 
--- every target is a point at least
-pub sew-least : (g : Settings) (p : P) (qs : List P) → length qs ≤ length (sewFrom g p qs)
-unfolding sewFrom
-sew-least g p [] = omega arith
-sew-least g p (q ∷ qs) = omega (arith, sew-least g q qs, length-append (between g p q) (q ∷ sewFrom g q qs))
+  -- every target is a point at least
+  pub sew-least : (p : P) (qs : List P) → length qs ≤ length (sewTo l p qs)
+  sew-least p [] = omega arith
+  sew-least p (q ∷ qs) = omega (arith, sew-least q qs, sew-count p q qs)
 
 -- ---- turned back
 
@@ -196,13 +202,14 @@ pub sewn-none : (g : Settings) (stagger : ℕ) (pen : P) → sewnFrom g stagger 
 unfolding sewnFrom sewFrom back
 sewn-none g stagger pen = refl
 
-pub sewn-next : (g : Settings) (stagger : ℕ) (pen : P) (e : Entry) (es : List Entry) → sewnFrom g stagger pen (e ∷ es) ≡ back (g .cosine) (g .sine) (sewFrom g pen (rowPoints g stagger e)) ++ sewnFrom g stagger (endOf e) es
+pub sewn-next : (g : Settings) (stagger : ℕ) (pen : P) (e : Entry) (es : List Entry) → sewnFrom g stagger pen (e ∷ es) ≡ back (g .cosine) (g .sine) (sewTo (g .len) pen (rowPoints g stagger e)) ++ sewnFrom g stagger (endOf e) es
 unfolding sewnFrom
 sewn-next g stagger pen e es =
     let a = rowPoints g stagger e in
     let b = each (rowPoints g stagger) es in
     ap (back (g .cosine) (g .sine)) (sew-append g pen a b ∙ ap (λ p. sewFrom g pen a ++ sewFrom g p b) (row-after g stagger e pen))
     ∙ back-append (g .cosine) (g .sine) (sewFrom g pen a) (sewFrom g (endOf e) b)
+    ∙ ap (λ l. back (g .cosine) (g .sine) l ++ back (g .cosine) (g .sine) (sewFrom g (endOf e) b)) (sew-is g pen a)
 
 -- the first point is where the pen starts, and sewing to it cuts nothing
 sew-start : (g : Settings) (p : P) (l : List P) → sew g (p ∷ l) ≡ sewFrom g p (p ∷ l)

@@ -165,6 +165,11 @@ way p q n = map (λ i. lerp p q (real (pos i) ⊘ real (pos (n + 1)))) (upto 1 n
 abbrev pub gap : P → P → ℕ → List P
 gap p q n = way p q n ++ (q ∷ [])
 
+-- from p to each of the points in turn, no step longer than len
+unfoldable pub sewTo : Float → P → List P → List P
+sewTo len p [] = []
+sewTo len p (q ∷ qs) = gap p q (cuts len p q) ++ sewTo len q qs
+
 -- turned back by (c, s)
 unfoldable pub back : Float → Float → List P → List P
 back c s ps = map (λ p. rotate p c s) ps

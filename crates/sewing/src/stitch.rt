@@ -5,8 +5,7 @@ ghost use lib.ListN.{length};
 ghost use Rattle.seqs.specs.Slices.{capped, Put};
 ghost use Rattle.geom.specs.Point.{point};
 ghost use Rattle.rules.specs.Standin.{flat};
-ghost use Rattle.rules.specs.Fill.{sewFrom};
-ghost use Rattle.sewing.specs.Sewing.{cutsFor, cuts, Decides, gap, back, Near, targets};
+ghost use Rattle.sewing.specs.Sewing.{cutsFor, cuts, Decides, gap, sewTo, back, Near, targets};
 use crate::row::Row;
 use crate::row::target_at;
 use geom::P;
@@ -14,7 +13,6 @@ use leaves::ceil;
 use leaves::of_u64;
 use leaves::root;
 use leaves::to_u64;
-use rules::Settings;
 
 // Squared lengths that decide with no root: up to `one` a step isn't cut, from `from` to `two` it is cut once.
 pub struct Limits {
@@ -71,11 +69,10 @@ fn put_gap(out: &mut [f64], k: usize, p: P, q: P, n: u64, c: f64, s: f64) -> usi
 }
 
 // How many points a row has, sewn from the pen, after c0 others; cap + 1 where they pass the cap.
-pub fn count_row(g: Settings, m: Limits, w: Row, pen: P, c0: u64, cap: u64) -> u64
-    requires { ⌜ Decides (g .len) m × Near w × (c0 ≤ cap) × (cap < 2 ^ 63) ⌝ }
-    ensures { λ r. ⌜ r ≡ capped cap (c0 + length (sewFrom g pen (targets (g .len) w 0 (w .n + 2)))) ⌝ }
+pub fn count_row(len: f64, m: Limits, w: Row, pen: P, c0: u64, cap: u64) -> u64
+    requires { ⌜ Decides len m × Near w × (c0 ≤ cap) × (cap < 2 ^ 63) ⌝ }
+    ensures { λ r. ⌜ r ≡ capped cap (c0 + length (sewTo len pen (targets len w 0 (w .n + 2)))) ⌝ }
 {
-    let len = g.len;
     let y = w.y;
     if cap < w.n {
         return cap + 1;
@@ -100,11 +97,10 @@ pub fn count_row(g: Settings, m: Limits, w: Row, pen: P, c0: u64, cap: u64) -> u
 }
 
 // A row's points, sewn from the pen and turned back, from k on.
-pub fn put_row(out: &mut [f64], k: usize, g: Settings, m: Limits, w: Row, pen: P) -> usize
-    requires { ⌜ Decides (g .len) m × Near w × (k + length (flat (back (g .cosine) (g .sine) (sewFrom g pen (targets (g .len) w 0 (w .n + 2))))) ≤ length (now out)) ⌝ }
-    ensures { λ r. ⌜ Put (now (out .entry)) (now (out .exit)) k (flat (back (g .cosine) (g .sine) (sewFrom g pen (targets (g .len) w 0 (w .n + 2))))) × (r ≡ k + length (flat (back (g .cosine) (g .sine) (sewFrom g pen (targets (g .len) w 0 (w .n + 2)))))) ⌝ }
+pub fn put_row(out: &mut [f64], k: usize, len: f64, m: Limits, w: Row, pen: P, c: f64, s: f64) -> usize
+    requires { ⌜ Decides len m × Near w × (k + length (flat (back c s (sewTo len pen (targets len w 0 (w .n + 2))))) ≤ length (now out)) ⌝ }
+    ensures { λ r. ⌜ Put (now (out .entry)) (now (out .exit)) k (flat (back c s (sewTo len pen (targets len w 0 (w .n + 2))))) × (r ≡ k + length (flat (back c s (sewTo len pen (targets len w 0 (w .n + 2)))))) ⌝ }
 {
-    let len = g.len;
     let y = w.y;
     let end = w.n + 2;
     let mut px = pen.x;
@@ -114,7 +110,7 @@ pub fn put_row(out: &mut [f64], k: usize, g: Settings, m: Limits, w: Row, pen: P
     while r < end {
         let x = target_at(w, len, r);
         let n = cuts_to(px, py, x, y, len, m);
-        at = put_gap(out, at, P { x: px, y: py }, P { x: x, y: y }, n, g.cosine, g.sine);
+        at = put_gap(out, at, P { x: px, y: py }, P { x: x, y: y }, n, c, s);
         px = x;
         py = y;
         r += 1;

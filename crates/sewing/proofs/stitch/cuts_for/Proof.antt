@@ -1,53 +1,31 @@
+-- The limits decide, or the root. Assumes nothing.
+use mathlib.Core.Path.{_≡_, refl, sym, ap, _∙_, subst}
+use Prim.Native.Nat.{_-_}
+use native.Mathlib.Omega.{arith}
+use lib.Dec.{T}
+use Rattle.sewing.specs.Sewing.{cutsFor}
 use borrow.Author.Needs.{needs}
 use Rattle.sewing.proofs.stitch.cuts_for.Statement.{statement}
 use Rattle.sewing.proofs.stitch.cuts_for.Tie as tie
-use Rattle.sewing.proofs.stitch.cuts_for.Reads as reads
-use Rattle.sewing.proofs.stitch.cuts_for.Lts as lts
-use Rattle.leaves.proofs.to_u64.Reads as to-u64-reads
-use Rattle.leaves.proofs.root.Reads as root-reads
-use Rattle.leaves.proofs.ceil.Reads as ceil-reads
 
--- src/stitch.rt:32:9
 returns : tie.Need-returns
-returns c = ?
+returns c = sym (c .before .before .pre .none (c .before .before .args .d) (subst T (sym (c .before .before .good .0 .1)) tt) (c .if1 .taken))
 
--- src/stitch.rt:36:13
 returns-2 : tie.Need-returns-2
-returns-2 c = ?
+returns-2 c = sym (c .before .before .before .before .before .before .pre .once (c .before .before .before .before .before .before .args .d) (subst T (sym (c .before .before .before .before .before .before .good .0 .1)) tt) (c .before .before .if2 .taken) (c .if3 .taken))
 
--- src/stitch.rt:39:25
-root-requires : tie.Need-root-requires
-root-requires c κs = search needs
-
--- src/stitch.rt:39:20
-ceil-requires : tie.Need-ceil-requires
-ceil-requires c κs = search needs
-
--- src/stitch.rt:39:9
-to-u64-requires : tie.Need-to-u64-requires
-to-u64-requires c κs = search needs
-
--- src/stitch.rt:41:9
 returns-3 : tie.Need-returns-3
-returns-3 c = ?
+unfolding cutsFor
+returns-3 c =
+    let e = rw (c .before .before .ceil .ensures, c .before .before .before .root .ensures) at (c .before .to-u64 .ensures) in
+    rw (← e) (omega (arith, c .if4 .taken))
 
--- src/stitch.rt:43:5
-sub-result : tie.Need-sub-result
-sub-result c = search needs
-
--- src/stitch.rt:27:1
 returns-4 : tie.Need-returns-4
-returns-4 c = ?
+unfolding cutsFor
+returns-4 c =
+    let e = rw (c .before .before .ceil .ensures, c .before .before .before .root .ensures) at (c .before .to-u64 .ensures) in
+    rw e
 
 pub cuts-for-spec : {M : Type 1} → statement M
 cuts-for-spec =
-    tie.close
-    (tie.spec
-    returns
-    returns-2
-    root-requires
-    ceil-requires
-    to-u64-requires
-    returns-3
-    sub-result
-    returns-4)
+    tie.close (tie.spec returns returns-2 (λ c κs. search needs) (λ c κs. search needs) (λ c κs. search needs) returns-3 (λ c. search needs) returns-4)
