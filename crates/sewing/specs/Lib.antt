@@ -3,4 +3,5 @@ pub mod Sewing
 pub mod Flat
 pub mod LinkLaws
 pub mod RowLaws
+pub mod LinkedLaws
 pub mod SewLaws

@@ -37,7 +37,7 @@ map-map f g (a ∷ l) = ap (λ r. f (g a) ∷ r) (map-map f g l)
 
 module _ {A : Type 0} where
   -- two counts, place by place
-  map-upto : (f g : ℕ → A) (i j n : ℕ) → ((t : ℕ) → t < n → f (i + t) ≡ g (j + t)) → map f (upto i n) ≡ map g (upto j n)
+  pub map-upto : (f g : ℕ → A) (i j n : ℕ) → ((t : ℕ) → t < n → f (i + t) ≡ g (j + t)) → map f (upto i n) ≡ map g (upto j n)
   map-upto f g i j zero h = refl
   map-upto f g i j (suc n) h =
       let a : i + 0 ≡ i = omega arith in

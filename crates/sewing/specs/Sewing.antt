@@ -68,6 +68,19 @@ nextOf numbers i = seek (getD numbers i 0) (i + 1) (drop (i + 1) numbers)
 unfoldable pub links : List ℕ → ℕ → List ℕ
 links numbers n = map (nextOf numbers) (upto 0 (length numbers)) ++ map (firstOf numbers) (upto 0 n)
 
+-- the marks are there, with room for the links behind them
+pub record Marked (n sections : ℕ) (wholes : List ℕ) : Type 0 where
+  pub room : 4 * n + sections ≤ length wholes
+  pub below : (i : ℕ) → i < n → getD wholes (n + 2 * i) 0 < sections
+
+-- d is d₀ with the links of the pieces from i on: theirs, and the first of each section among them
+pub record Linking (n sections i : ℕ) (numbers d₀ d : List ℕ) : Type 0 where
+  pub size : length d ≡ length d₀
+  pub kept : take (3 * n) d ≡ take (3 * n) d₀
+  pub nexts : (j : ℕ) → i ≤ j → j < n → getD d (3 * n + j) 0 ≡ nextOf numbers j
+  pub firsts : (s : ℕ) → s < sections → getD d (4 * n + s) 0 ≡ seek s i (drop i numbers)
+  pub behind : drop (4 * n + sections) d ≡ drop (4 * n + sections) d₀
+
 -- what a walk along the links meets, from place j on, in at most n steps
 unfoldable pub walk : List Entry → ℕ → ℕ → List Entry
 walk es zero j = []

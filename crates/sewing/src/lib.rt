@@ -1,4 +1,5 @@
 // From marked pieces to needle points: the pieces of each section linked, then counted, then sewn into the output.
+pub mod link;
 pub mod row;
 pub mod stitch;
 
