@@ -1,3 +1,4 @@
 -- The mathematics of the crate's functions.
 pub mod Signs
 pub mod Loops
+pub mod Chains

@@ -4,17 +4,16 @@ use native.Mathlib.Omega.{arith}
 use mathlib.Core.Path.{_≡_, refl, sym, ap, _∙_}
 use mathlib.Core.List.{List, [], _∷_, _++_, map, append-assoc}
 use lib.ListN.{length, take, drop, getD, length-map, length-append, take-append-drop, length-drop, List·getD-append}
-use lib.Seq.{length-take-le, drop-drop, take-at, getD-append-add}
+use lib.Seq.{length-take-le, drop-drop, take-at, drop-at, getD-append-add}
 use lib.Ieee.{Float}
 use Rattle.seqs.specs.Lists.{upto}
 use Rattle.seqs.specs.Front.{next}
 use Rattle.seqs.specs.Reads.{read-on}
 use Rattle.seqs.specs.Slices.{Put}
 use Rattle.seqs.specs.Wrote.{head-length}
-use Rattle.seqs.specs.Upto.{upto-length, upto-at}
-use Rattle.rules.specs.declared.Entry.{Entry}
+use Rattle.seqs.specs.Upto.{upto-length}
 use Rattle.sewing.specs.declared.Field.{Field}
-use Rattle.sewing.specs.Sewing.{rowNumber, entryAt, entriesIn, numbersIn, seek, firstOf, nextOf, links, Marked, Linking, Linked}
+use Rattle.sewing.specs.Sewing.{entryAt, entriesIn, numbersIn, firstOf, nextOf, links, Linking, Linked}
 use Rattle.sewing.specs.RowLaws.{map-upto}
 
 -- ---- the row list
@@ -65,6 +64,26 @@ module _ (d e : List ℕ) where
       map-upto (entryAt f floats d) (entryAt f floats e) 0 0 n
       (λ t k. rw (read-on d e (0 + t) (3 * n) 0 (omega arith) h, read-on d e (n + 2 * (0 + t)) (3 * n) 0 (omega arith) h, read-on d e (n + 2 * (0 + t) + 1) (3 * n) 0 (omega arith) h))
 
+-- ---- what is put into a slice
+
+module _ {A : Type 0} (d₀ d m : List A) (k : ℕ) where
+  pub put-length : k + length m ≤ length d₀ → Put d₀ d k m → length d ≡ length d₀
+  put-length h p = ap length p ∙ length-append (take k d₀ ++ m) (drop (length (take k d₀ ++ m)) d₀) ∙ omega (arith, head-length d₀ m k (omega arith), length-drop (length (take k d₀ ++ m)) d₀)
+
+  pub put-kept : k ≤ length d₀ → Put d₀ d k m → take k d ≡ take k d₀
+  put-kept h p = ap (take k) (p ∙ append-assoc (take k d₀) m (drop (length (take k d₀ ++ m)) d₀)) ∙ take-at (take k d₀) (m ++ drop (length (take k d₀ ++ m)) d₀) k (length-take-le k d₀ h)
+
+  pub put-behind : (j : ℕ) → k + length m ≡ j → j ≤ length d₀ → Put d₀ d k m → drop j d ≡ drop j d₀
+  put-behind j e h p =
+      let l : length (take k d₀ ++ m) ≡ j = head-length d₀ m k (omega arith) ∙ e in
+      ap (drop j) p ∙ drop-at (take k d₀ ++ m) (drop (length (take k d₀ ++ m)) d₀) j l ∙ rw l
+
+  pub put-read : (i : ℕ) (z : A) → k ≤ length d₀ → i < length m → Put d₀ d k m → getD d (k + i) z ≡ getD m i z
+  put-read i z h l p =
+      ap (λ x. getD x (k + i) z) p
+      ∙ List·getD-append (take k d₀ ++ m) (drop (length (take k d₀ ++ m)) d₀) z (k + i) (omega (arith, head-length d₀ m k h))
+      ∙ rw (length-take-le k d₀ h) at (getD-append-add (take k d₀) m i z)
+
 -- ---- links that are written
 
 -- a part by its elements
@@ -96,3 +115,52 @@ module _ (n sections : ℕ) (numbers : List ℕ) (size : length numbers ≡ n) w
       ∙ (λ p. (k .kept ∙ t) p ++ (sym (take-append-drop n (drop (3 * n) d))) p)
       ∙ ap (λ x. take (3 * n) d₀ ++ (take n (drop (3 * n) d) ++ x)) (drop-drop n (3 * n) d ∙ ap (λ x. drop x d) e ∙ sym (take-append-drop sections (drop (4 * n) d)) ∙ ap (λ x. take sections (drop (4 * n) d) ++ x) (drop-drop sections (4 * n) d ∙ k .behind ∙ u))
       ∙ rw (a, b, z, append-assoc, append-assoc)
+
+  -- where the links are written, each is read
+  module _ (d₀ d : List ℕ) (h : 4 * n + sections ≤ length d₀) (p : Put d₀ d (3 * n) (links numbers sections)) where
+    own : List ℕ
+    own = map (nextOf numbers) (upto 0 (length numbers))
+
+    own-length : length own ≡ n
+    unfolding own
+    own-length = length-map (upto 0 (length numbers)) (nextOf numbers) ∙ upto-length 0 (length numbers) ∙ size
+
+    reads : (i : ℕ) → i < n + sections → getD d (3 * n + i) 0 ≡ getD (links numbers sections) i 0
+    reads i l = put-read d₀ d (links numbers sections) (3 * n) i 0 (omega arith) (omega (arith, links-length numbers sections)) p
+
+    pub linked-next : (i : ℕ) → i < n → getD d (3 * n + i) 0 ≡ nextOf numbers i
+    unfolding links own
+    linked-next i l =
+        let o : 0 + i ≡ i = omega arith in
+        reads i (omega arith)
+        ∙ List·getD-append own (map (firstOf numbers) (upto 0 sections)) 0 i (omega (arith, own-length))
+        ∙ map-at (nextOf numbers) 0 (length numbers) i 0 (omega (arith, size)) ∙ rw o
+
+    pub linked-first : (t : ℕ) → t < sections → getD d (4 * n + t) 0 ≡ firstOf numbers t
+    unfolding links own
+    linked-first t l =
+        let o : 0 + t ≡ t = omega arith in
+        let e : 3 * n + (n + t) ≡ 4 * n + t = omega arith in
+        rw e at (reads (n + t) (omega arith))
+        ∙ rw own-length at (getD-append-add own (map (firstOf numbers) (upto 0 sections)) t 0)
+        ∙ map-at (firstOf numbers) 0 sections t 0 l ∙ rw o
+
+-- what `link` leaves
+pub linked : (f : Field) (sections : ℕ) (floats : List Float) (d₀ d : List ℕ) → f .stagger < 2 ^ 32 → 3 * f .pieces ≤ length floats → 4 * f .pieces + sections ≤ length d₀
+    → Put d₀ d (3 * f .pieces) (links (numbersIn (f .pieces) d₀) sections) → Linked f sections floats d
+linked f sections floats d₀ d g h r p =
+    let n = f .pieces in
+    let ns = numbersIn n d₀ in
+    let k = numbers-kept d d₀ n (put-kept d₀ d (links ns sections) (3 * n) (omega arith) p) in
+    let z = numbers-length n d₀ in
+    record {
+      stagger = g;
+      pieces = h;
+      numbers = omega (arith, put-length d₀ d (links ns sections) (3 * n) (omega (arith, links-length ns sections, z)) p);
+      nexts = λ i l. rw k (linked-next n sections ns z d₀ d r p i l);
+      firsts = λ t l. rw k (linked-first n sections ns z d₀ d r p t l);
+    }
+
+-- and of fewer sections
+pub linked-less : (f : Field) (sections s : ℕ) (floats : List Float) (d : List ℕ) → s ≤ sections → Linked f sections floats d → Linked f s floats d
+linked-less f sections s floats d h l = record { stagger = l .stagger; pieces = l .pieces; numbers = omega (arith, l .numbers); nexts = l .nexts; firsts = λ t k. l .firsts t (omega arith) }
