@@ -2,3 +2,4 @@
 pub mod Signs
 pub mod Loops
 pub mod Chains
+pub mod Walks

@@ -22,7 +22,7 @@ use Rattle.rules.specs.declared.Piece.{Piece}
 use Rattle.rules.specs.declared.Entry.{Entry}
 use Rattle.rules.specs.Fill.{howMany, offset, through, needles, rowPoints}
 use Rattle.sewing.specs.declared.row.Row.{Row}
-use Rattle.sewing.specs.Sewing.{most, forward, endOf, lowest, highest, rowOf, needle, target, targets}
+use Rattle.sewing.specs.Sewing.{most, forward, minEnd, lowest, highest, rowBy, rowOf, needle, target, targets}
 
 -- ---- lists
 
@@ -91,14 +91,14 @@ module _ (len : Float) (w : Row) where
       rw (ne-eqb (1 + t) 0 (λ z. omega arith), le-ltb (w .n) (1 + t) (omega arith), a, b)
 
 -- the needle points by index
-pub needles-are : (g : Settings) (stagger : ℕ) (p : Piece) → needles g stagger p ≡ map (λ i. offset g stagger (p .k) ⊕ real (lowest (g .len) (offset g stagger (p .k)) (p .xa) +ℤ pos i) ⊗ g .len) (upto 0 (howMany (lowest (g .len) (offset g stagger (p .k)) (p .xa)) (highest (g .len) (offset g stagger (p .k)) (p .xb))))
+pub needles-are : (g : Settings) (stagger : ℕ) (p : Piece) → needles g stagger p ≡ map (λ i. offset g stagger (p .k) ⊕ real (lowest (g .len) (minEnd (g .len)) (offset g stagger (p .k)) (p .xa) +ℤ pos i) ⊗ g .len) (upto 0 (howMany (lowest (g .len) (minEnd (g .len)) (offset g stagger (p .k)) (p .xa)) (highest (g .len) (minEnd (g .len)) (offset g stagger (p .k)) (p .xb))))
 unfolding needles through
 needles-are g stagger p =
     let off = offset g stagger (p .k) in
-    let m0 = lowest (g .len) off (p .xa) in
-    map-map (λ m. off ⊕ real m ⊗ g .len) (λ i. m0 +ℤ pos i) (upto 0 (howMany m0 (highest (g .len) off (p .xb))))
+    let m0 = lowest (g .len) (minEnd (g .len)) off (p .xa) in
+    map-map (λ m. off ⊕ real m ⊗ g .len) (λ i. m0 +ℤ pos i) (upto 0 (howMany m0 (highest (g .len) (minEnd (g .len)) off (p .xb))))
 
-pub needles-length : (g : Settings) (stagger : ℕ) (p : Piece) → length (needles g stagger p) ≡ howMany (lowest (g .len) (offset g stagger (p .k)) (p .xa)) (highest (g .len) (offset g stagger (p .k)) (p .xb))
+pub needles-length : (g : Settings) (stagger : ℕ) (p : Piece) → length (needles g stagger p) ≡ howMany (lowest (g .len) (minEnd (g .len)) (offset g stagger (p .k)) (p .xa)) (highest (g .len) (minEnd (g .len)) (offset g stagger (p .k)) (p .xb))
 needles-length g stagger p = rw (needles-are g stagger p, length-map, upto-length)
 
 pub row-length : (g : Settings) (stagger : ℕ) (e : Entry) → length (rowPoints g stagger e) ≡ length (needles g stagger (e .piece)) + 2
@@ -116,7 +116,7 @@ row-length g stagger e = go (forward e)
     go false = length-reverse ps ∙ size
 
 pub row-points : (g : Settings) (stagger : ℕ) (e : Entry) → length (needles g stagger (e .piece)) ≤ most → targets (g .len) (rowOf g stagger e) 0 (rowOf g stagger e .n + 2) ≡ rowPoints g stagger e
-unfolding rowPoints rowOf at
+unfolding rowPoints rowOf rowBy at
 row-points g stagger e h = parts (g .len) w ∙ go (forward e) (between-at (g .len) w)
   where
     p : Piece
@@ -129,7 +129,7 @@ row-points g stagger e h = parts (g .len) w ∙ go (forward e) (between-at (g .l
     stitch x = point x (p .y)
 
     N : ℕ
-    N = howMany (lowest (g .len) (w .off) (p .xa)) (highest (g .len) (w .off) (p .xb))
+    N = howMany (lowest (g .len) (minEnd (g .len)) (w .off) (p .xa)) (highest (g .len) (minEnd (g .len)) (w .off) (p .xb))
 
     n-is : w .n ≡ N
     n-is = capped-in most N (omega (arith, needles-length g stagger p))

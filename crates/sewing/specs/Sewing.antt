@@ -19,10 +19,11 @@ use Rattle.geom.specs.declared.point.P.{P}
 use Rattle.geom.specs.Point.{point, rotate, lerp}
 use Rattle.rules.specs.declared.Settings.{Settings}
 use Rattle.rules.specs.declared.Entry.{Entry}
-use Rattle.rules.specs.Fill.{howMany, offset, section, rowPoints, sewFrom}
+use Rattle.rules.specs.Fill.{howMany, cycle, remEuclid, offset, section, rowPoints, sewFrom}
 use Rattle.sewing.specs.declared.Field.{Field}
 use Rattle.sewing.specs.declared.row.Row.{Row}
 use Rattle.sewing.specs.declared.stitch.Limits.{Limits}
+use Rattle.sewing.specs.declared.piece.Thread.{Thread}
 
 -- ---- the row list in the working slices
 
@@ -114,26 +115,29 @@ endOf e = point (cond (forward e) (e .piece .xb) (e .piece .xa)) (e .piece .y)
 abbrev pub minEnd : Float → Float
 minEnd len = smaller (len ⊗ literal 1 4) (literal 5 1)
 
-abbrev pub lowest : Float → Float → Float → ℤ
-lowest len off xa = toSigned 63 (ceil ((xa ⊕ minEnd len ⊖ off) ⊘ len))
+abbrev pub lowest : Float → Float → Float → Float → ℤ
+lowest len margin off xa = toSigned 63 (ceil ((xa ⊕ margin ⊖ off) ⊘ len))
 
-abbrev pub highest : Float → Float → Float → ℤ
-highest len off xb = toSigned 63 (floor ((xb ⊖ minEnd len ⊖ off) ⊘ len))
+abbrev pub highest : Float → Float → Float → Float → ℤ
+highest len margin off xb = toSigned 63 (floor ((xb ⊖ margin ⊖ off) ⊘ len))
+
+unfoldable pub rowBy : Float → Float → Float → Float → Float → Float → Bool → Row
+rowBy len margin off y xa xb fwd = record {
+  y = y;
+  first = cond fwd xa xb;
+  last = cond fwd xb xa;
+  off = off;
+  m0 = lowest len margin off xa;
+  n = capped most (howMany (lowest len margin off xa) (highest len margin off xb));
+  forward = fwd;
+}
 
 unfoldable pub rowOf : Settings → ℕ → Entry → Row
-rowOf g stagger e =
-    let p = e .piece in
-    let off = offset g stagger (p .k) in
-    let m0 = lowest (g .len) off (p .xa) in
-    record {
-      y = p .y;
-      first = cond (forward e) (p .xa) (p .xb);
-      last = cond (forward e) (p .xb) (p .xa);
-      off = off;
-      m0 = m0;
-      n = capped most (howMany m0 (highest (g .len) off (p .xb)));
-      forward = forward e;
-    }
+rowOf g stagger e = rowBy (g .len) (minEnd (g .len)) (offset g stagger (e .piece .k)) (e .piece .y) (e .piece .xa) (e .piece .xb) (forward e)
+
+-- a row's place in the stagger's cycle, from the place of the first row met
+unfoldable pub phaseOf : ℕ → ℕ → ℕ → Bool → ℕ
+phaseOf start r n down = cond down ((start + (n - r % n)) % n) ((start + r % n) % n)
 
 -- every needle point's number is one of the machine's
 abbrev pub Near : Row → Type 0
@@ -169,6 +173,15 @@ cuts len p q = cutsFor len (square p q)
 pub record Decides (len : Float) (m : Limits) : Type 0 where
   pub none : (d : Float) → T (fits binary64 d) → le d (m .one) ≡ true → cutsFor len d ≡ 0
   pub once : (d : Float) → T (fits binary64 d) → le (m .from) d ≡ true → le d (m .two) ≡ true → cutsFor len d ≡ 1
+
+-- what all rows of a fill share, worked out once
+pub record Ready (f : Field) (t : Thread) : Type 0 where
+  pub margin : t .margin ≡ minEnd (f .g .len)
+  pub count : t .cycle ≡ cycle (f .stagger)
+  pub some : 0 < t .cycle
+  pub small : t .cycle ≤ 2 ^ 32
+  pub start : t .start ≡ remEuclid (f .row) (cycle (f .stagger))
+  pub limits : Decides (f .g .len) (t .limits)
 
 -- these points, n of them
 unfoldable pub way : P → P → ℕ → List P

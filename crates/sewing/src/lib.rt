@@ -1,8 +1,13 @@
 // From marked pieces to needle points: the pieces of each section linked, then counted, then sewn into the output.
-pub mod link;
+pub mod links;
+pub mod piece;
 pub mod row;
+pub mod section;
 pub mod stitch;
 
+pub use links::link;
+pub use section::count;
+pub use section::write;
 use rules::Settings;
 
 // What is sewn: the settings and the stagger, the number of the first row met, whether rows are met last first, and how many pieces there are.

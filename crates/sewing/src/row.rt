@@ -5,12 +5,14 @@ ghost use lib.IntN.{pos, _+ℤ_};
 ghost use lib.Signed.{mag};
 ghost use mir.Syntax.{w64};
 ghost use mir.Val.{SFits};
-ghost use Rattle.leaves.specs.Num.{_⊕_, _⊗_, _⊘_, real};
+ghost use Rattle.leaves.specs.Num.{_⊕_, _⊗_, real};
 ghost use Rattle.seqs.specs.Slices.{capped};
 ghost use Rattle.rules.specs.Fill.{remEuclid, howMany};
-ghost use Rattle.sewing.specs.Sewing.{rowNumber, most, Near, needle, target};
+ghost use Rattle.sewing.specs.Sewing.{most, rowBy, Near, target};
+use leaves::ceil;
+use leaves::floor;
 use leaves::of_i64;
-use leaves::of_u64;
+use leaves::to_i64;
 
 // `first`, then n needle points off + m * len from m0 on, left to right or back, then `last`.
 pub struct Row {
@@ -65,6 +67,35 @@ fn reach(lo: i64, hi: i64) -> u64
         return d + 2;
     }
     9223372036854775808
+}
+
+// The row of a piece whose stagger is `off`.
+pub fn row_of(len: f64, margin: f64, off: f64, y: f64, xa: f64, xb: f64, forward: bool) -> Row
+    ensures { λ r. ⌜ (r ≡ rowBy len margin off y xa xb forward) × Near r ⌝ }
+{
+    let m0 = to_i64(ceil((xa + margin - off) / len));
+    let m1 = to_i64(floor((xb - margin - off) / len));
+    let n = reach(m0, m1);
+    if forward {
+        return Row {
+            y: y,
+            first: xa,
+            last: xb,
+            off: off,
+            m0: m0,
+            n: n,
+            forward: true,
+        };
+    }
+    Row {
+        y: y,
+        first: xb,
+        last: xa,
+        off: off,
+        m0: m0,
+        n: n,
+        forward: false,
+    }
 }
 
 // off + (m0 + i) * len

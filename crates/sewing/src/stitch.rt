@@ -21,6 +21,17 @@ pub struct Limits {
     pub two: f64,
 }
 
+pub fn limits_of(len: f64) -> Limits
+    ensures { λ r. ⌜ Decides len r ⌝ }
+{
+    let none = 0.0 / 0.0;
+    Limits {
+        one: none,
+        from: none,
+        two: none,
+    }
+}
+
 // How many points cut a step of squared length d.
 fn cuts_for(d: f64, len: f64, m: Limits) -> u64
     requires { ⌜ Decides len m ⌝ }

@@ -7,8 +7,8 @@ use lib.ListN.{length, length-set, getD}
 use Rattle.sewing.specs.Sewing.{numbersIn, Marked, Linking}
 use Rattle.sewing.proofs.Chains.{chain-start, mark-is, mark-below, chain-next}
 use borrow.Author.Needs.{needs}
-use Rattle.sewing.proofs.link.chain.Statement.{statement}
-use Rattle.sewing.proofs.link.chain.Tie as tie
+use Rattle.sewing.proofs.links.chain.Statement.{statement}
+use Rattle.sewing.proofs.links.chain.Tie as tie
 
 before : {n sections : ℕ} {ns d₀ d : List ℕ} (i : ℕ) → 0 < i → Linking n sections i ns d₀ d → Linking n sections (i - 1 + 1) ns d₀ d
 before i h l = let e : i - 1 + 1 ≡ i = omega arith in rw e l

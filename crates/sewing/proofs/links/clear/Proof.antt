@@ -7,8 +7,8 @@ use lib.ListN.{length, take, replicate, length-replicate}
 use Rattle.seqs.specs.Front.{Front, front-from, front-at, front-push, next-rep, none-rep}
 use Rattle.seqs.specs.Wrote.{put-end}
 use borrow.Author.Needs.{needs}
-use Rattle.sewing.proofs.link.clear.Statement.{statement}
-use Rattle.sewing.proofs.link.clear.Tie as tie
+use Rattle.sewing.proofs.links.clear.Statement.{statement}
+use Rattle.sewing.proofs.links.clear.Tie as tie
 
 abbrev Inv-loop : tie.InvT-loop
 Inv-loop wholes₀ k n v i₀ wholes i = (i ≤ n) × Front wholes₀ wholes (k + i) (replicate (n - i) v) (take k wholes₀ ++ replicate n v)
