@@ -53,14 +53,6 @@ module _ (f : Field) (t : Thread) (r : Ready f t) where
 -- ---- a row of more needle points than any output has room for
 
 module _ (g : Settings) (stagger : ℕ) (e : Entry) (pen : P) where
-  w : Row
-  w = rowOf g stagger e
-
-  -- its points by index, and by the definition
-  made fixed : List P
-  made = sewTo (g .len) pen (targets (g .len) w 0 (w .n + 2))
-  fixed = sewTo (g .len) pen (rowPoints g stagger e)
-
   pub row-same : length (needles g stagger (e .piece)) ≤ most → sewTo (g .len) pen (targets (g .len) (rowOf g stagger e) 0 (rowOf g stagger e .n + 2)) ≡ sewTo (g .len) pen (rowPoints g stagger e)
   row-same h = ap (sewTo (g .len) pen) (row-points g stagger e h)
 
@@ -85,12 +77,6 @@ module _ (f : Field) (floats : List Float) (d : List ℕ) (s : ℕ) where
   pub rest-sewn : P → ℕ → List P
   rest-sewn pen j = sewnFrom (f .g) (f .stagger) pen (rest j)
 
-  es : List Entry
-  es = entriesIn f floats d
-
-  ns : List ℕ
-  ns = numbersIn (f .pieces) d
-
   pub rest-none : (pen : P) (j : ℕ) → f .pieces ≤ j → rest-sewn pen j ≡ []
   unfolding rest rest-sewn section
   rest-none pen j h = rw (none (entriesIn f floats d) j (omega (arith, entries-length f floats d))) (sewn-none (f .g) (f .stagger) pen)
@@ -104,9 +90,6 @@ module _ (f : Field) (floats : List Float) (d : List ℕ) (s : ℕ) where
   rest-next j h q = rw (numbers-are f floats d) at (next-section (entriesIn f floats d) s j (entryAt f floats d j) (entries-next f floats d j h) (number-of j h ∙ q))
 
   module _ (l : Linked f (s + 1) floats d) where
-    first : ℕ
-    first = getD d (4 * f .pieces + s) 0
-
     first-is : getD d (4 * f .pieces + s) 0 ≡ firstOf (numbersIn (f .pieces) d) s
     first-is = l .firsts s (omega arith)
 
@@ -118,6 +101,7 @@ module _ (f : Field) (floats : List Float) (d : List ℕ) (s : ℕ) where
 
     pub start-sewn : (pen : P) → (getD d (4 * f .pieces + s) 0 < f .pieces → pen ≡ startOf (entryAt f floats d (getD d (4 * f .pieces + s) 0)))
         → rest-sewn pen (getD d (4 * f .pieces + s) 0) ≡ sewn (f .g) (f .stagger) (section (entriesIn f floats d) s)
+    unfolding rest rest-sewn section
     start-sewn pen h =
         let j = getD d (4 * f .pieces + s) 0 in
         let a : section (entriesIn f floats d) s ≡ rest j = whole in
