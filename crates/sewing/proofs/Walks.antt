@@ -27,7 +27,7 @@ use Rattle.rules.specs.Calls.{sewnEnds}
 use Rattle.sewing.specs.declared.Field.{Field}
 use Rattle.sewing.specs.declared.row.Row.{Row}
 use Rattle.sewing.specs.declared.piece.Thread.{Thread}
-use Rattle.sewing.specs.Sewing.{rowNumber, most, entryAt, entriesIn, numbersIn, firstOf, nextOf, Linked, startOf, endOf, rowBy, rowOf, targets, phaseOf, Ready, sewTo, back, sewnFrom}
+use Rattle.sewing.specs.Sewing.{rowNumber, most, entryAt, entriesIn, numbersIn, firstSections, firstOf, nextOf, Linked, startOf, endOf, rowBy, rowOf, targets, phaseOf, Ready, sewTo, back, sewnFrom}
 use Rattle.sewing.specs.Flat.{flat-length, flat-append, flat-none}
 use Rattle.sewing.specs.RowLaws.{targets-length, row-points, row-length, needles-length}
 use Rattle.sewing.specs.SewLaws.{sew-least, back-length, sewn-none, sewn-next, sewn-start, sewn-empty}
@@ -180,6 +180,10 @@ module _ (g : Settings) (stagger : ℕ) (es : List Entry) (s m : ℕ) where
   -- those from s on
   pub sewnRest : List (List P)
   sewnRest = map (sewn g stagger) (map (section es) (upto s (m - s)))
+
+pub all-start : (g : Settings) (stagger : ℕ) (es : List Entry) (m : ℕ) → sewnRest g stagger es 0 m ≡ map (sewn g stagger) (firstSections es m)
+unfolding sewnRest
+all-start g stagger es m = let z : m - 0 ≡ m = omega arith in rw z
 
 module _ (g : Settings) (stagger : ℕ) (es : List Entry) (s m : ℕ) where
   all-rest : s < m → sewnRest g stagger es s m ≡ sewn g stagger (section es s) ∷ sewnRest g stagger es (s + 1) m
