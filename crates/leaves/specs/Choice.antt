@@ -2,16 +2,15 @@
 use mathlib.Core.Path.{_≡_, refl, sym, subst}
 use mathlib.Core.Bool.{Bool, true, false, not, cond}
 use mathlib.Core.Logic.{_⊎_, inl, inr}
-use Prim.Native.Nat.{ℕ, _+_, _*_, _≤_}
 use native.Mathlib.Omega.{arith}
 use lib.Dec.{T}
-use lib.Ieee.{Float, nan, inf, fin, binary64, up, down, fits, isNan, le, neg}
+use lib.Ieee.{Float, nan, inf, fin, binary64, fits, isNan, le, neg}
 use lib.Ieee.Fits.{neg-fits}
 use Rattle.leaves.specs.Num.{zero64}
 use Rattle.leaves.specs.Order.{before, smaller, larger, magnitude, finite}
 use Rattle.leaves.specs.Value.{unitsOf}
 use Rattle.leaves.specs.Fraction.{cross→le}
-use Rattle.leaves.specs.FloatOrder.{le-refl, le-trans, neg-le}
+use Rattle.leaves.specs.FloatOrder.{le-refl}
 use Rattle.leaves.specs.OrderLaws.{before-irrefl, before-asym, before-left, before-right, not-before-le}
 
 pub smaller-has : (P : Float → Type 0) (x y : Float) → P x → P y → P (smaller x y)

@@ -1,16 +1,15 @@
 -- What a pattern is read as, and the root of it.
 use mathlib.Core.Path.{_≡_, refl, sym, ap, subst, _∙_}
-use mathlib.Core.Bool.{Bool, true, false, not, cond}
+use mathlib.Core.Bool.{Bool, false, cond}
 use Prim.Native.Nat.{ℕ, zero, suc, _+_, _-_, _*_, _/_, _%_, _^_, _≤_, _<_}
-use native.Mathlib.Nat.{mul-comm, mul-assoc, mul-left-comm, mul-right-comm, mul-pos, pow-succ', mul-div-cancel, zero-mul, mul-one, lt-irrefl}
-use native.Mathlib.Numerals.{add-one}
+use native.Mathlib.Nat.{mul-comm, mul-assoc, mul-pos, pow-succ', mul-div-cancel, zero-mul, lt-irrefl}
 use native.Mathlib.Omega.{arith}
-use lib.IntN.{ℤ, pos}
-use lib.Pow.{pow-mono, pow-pos, pow-add}
-use lib.Dec.{T, leb, eqb, lit≤, lit<}
+use lib.IntN.{ℤ}
+use lib.Pow.{pow-pos, pow-add}
+use lib.Dec.{leb, eqb}
 use lib.Count.{trailingZeros}
-use borrow.Author.Tests.{lt-leb, le-leb, ne-eqb}
-use lib.Ieee.{Float, nan, inf, fin, Format, binary64, up, down, minus, size, odd, ofBits, ofFields}
+use borrow.Author.Tests.{lt-leb, ne-eqb}
+use lib.Ieee.{nan, inf, fin, binary64, up, down, minus, size, odd, ofBits, ofFields}
 use lib.Ieee.Digits.{Equals, odd-val}
 use lib.Ieee.Fits.{down-pos}
 use Rattle.leaves.specs.Root.{nearRoot, rootUnits, root}
@@ -61,7 +60,7 @@ four-pow (suc k) = pow-succ' 4 k ∙ ap (λ (x : ℕ). 4 * x) (four-pow k) ∙ s
     more k = omega arith
 
 pub apart : (d k p : ℕ) → d * 2 ^ (52 + (2 * k + p)) ≡ d * 2 ^ p * 2 ^ 52 * 4 ^ k
-apart d k p = rw (four-pow, pow-add 2 52 (2 * k + p), pow-add 2 (2 * k) p) (simp (mul-assoc, mul-comm, mul-left-comm))
+apart d k p = rw (four-pow, pow-add 2 52 (2 * k + p), pow-add 2 (2 * k) p) (simp (mul-assoc, mul-comm))
 
 pub rootUnits-at : (d a k p : ℕ) → 2 ^ 52 ≤ d → d < 2 ^ 53 → a ≡ 52 + (2 * k + p) → p < 2 → rootUnits (d * 2 ^ a) ≡ odd 54 false (nearRoot 53 (d * 2 ^ p * 2 ^ 52)) k 1074
 unfolding rootUnits

@@ -1,17 +1,16 @@
 -- `le` and `lt` order the floats: transitive, and off NaN total, each the other's denial.
-use mathlib.Core.Path.{_≡_, refl, sym, ap, _∙_, subst}
-use mathlib.Core.Bool.{Bool, true, false, not, _&&_, _||_, Bool·beq}
+use mathlib.Core.Path.{_≡_, sym, subst}
+use mathlib.Core.Bool.{Bool, true, false, not, _||_, Bool·beq}
 use mathlib.Core.Logic.{_⊎_, inl, inr}
 use Prim.Native.Nat.{ℕ, _+_, _*_, _≤_, _<_}
 use native.Mathlib.Nat.{le-of-mul-le-mul-right, mul-le-mul-right}
 use native.Mathlib.Decide.{decLe}
 use native.Mathlib.Omega.{arith}
-use lib.Dec.{T}
-use lib.Ieee.{Float, nan, inf, fin, up, down, neg, lt, eq, le, isNan}
-use lib.Ieee.Fits.{down-pos}
-use lib.Ieee.Positive.{den, den-pos}
+use lib.Dec.{T, eqb, eqb→eq}
+use lib.Ieee.{Float, nan, inf, fin, up, down, level, neg, lt, eq, le, isNan}
+use lib.Ieee.Fits.{down-pos, and-l}
 use Rattle.leaves.specs.Order.{finite}
-use Rattle.leaves.specs.Fraction.{over, under, plus, less, le→cross, cross→le, lt→cross, cross→lt}
+use Rattle.leaves.specs.Fraction.{over, under, le→cross, cross→le, lt→cross, cross→lt}
 
 -- three fractions (p - n) / d
 pub through : (p n d p′ n′ d′ p″ n″ d″ : ℕ) → 0 < d′ → p * d′ + n′ * d ≤ p′ * d + n * d′ → p′ * d″ + n″ * d′ ≤ p″ * d′ + n′ * d″ → p * d″ + n″ * d ≤ p″ * d + n * d″
@@ -97,6 +96,27 @@ le-right (fin s m e) nan h = h
 le-right (fin s m e) (inf t) h = tt
 le-right (fin s m e) (fin t n d) h = tt
 
+-- the infinities are the ends
+pub minus-inf-le : (v : Float) → T (not (isNan v)) → T (le (inf true) v)
+unfolding le isNan
+minus-inf-le nan h = h
+minus-inf-le (inf true) h = tt
+minus-inf-le (inf false) h = tt
+minus-inf-le (fin s m e) h = tt
+
+pub le-inf : (v : Float) → T (not (isNan v)) → T (le v (inf false))
+unfolding le isNan
+le-inf nan h = h
+le-inf (inf true) h = tt
+le-inf (inf false) h = tt
+le-inf (fin s m e) h = tt
+
+pub finite-number : (x : Float) → T (finite x) → T (not (isNan x))
+unfolding finite isNan
+finite-number nan h = h
+finite-number (inf s) h = tt
+finite-number (fin s m e) h = tt
+
 pub lt-le : (x y : Float) → T (lt x y) → T (le x y)
 unfolding le
 lt-le x y h = go (lt x y) h
@@ -104,6 +124,14 @@ lt-le x y h = go (lt x y) h
     go : (b : Bool) → T b → T (b || eq x y)
     go true t = tt
     go false t = absurd t
+
+pub eq-le : (x y : Float) → T (eq x y) → T (le x y)
+unfolding le
+eq-le x y h = go (lt x y) h
+  where
+    go : (b : Bool) → T (eq x y) → T (b || eq x y)
+    go true t = tt
+    go false t = t
 
 pub le-refl : (x : Float) → T (not (isNan x)) → T (le x x)
 le-refl x p = elim (le-or-lt x x p p) [ inl h ↦ h | inr k ↦ lt-le x x k ]
@@ -119,6 +147,29 @@ lt-trans x y z h k = le-lt-trans x y z (lt-le x y h) k
 
 pub lt-irrefl : (x : Float) → T (lt x x) → ⊥
 lt-irrefl x h = le-lt-clash x x (lt-le x x h) h
+
+pub eq-sym : (x y : Float) → T (eq x y) → T (eq y x)
+unfolding eq
+eq-sym nan y h = absurd h
+eq-sym (inf s) nan h = absurd h
+eq-sym (inf true) (inf true) h = tt
+eq-sym (inf true) (inf false) h = h
+eq-sym (inf false) (inf true) h = h
+eq-sym (inf false) (inf false) h = tt
+eq-sym (inf s) (fin t n d) h = absurd h
+eq-sym (fin s m e) nan h = absurd h
+eq-sym (fin s m e) (inf t) h = absurd h
+eq-sym (fin s m e) (fin t n d) h =
+    let a = m * up e * down d in
+    let b = n * up d * down e in
+    let p : a ≡ b = eqb→eq a b (and-l (eqb a b) (Bool·beq s t || eqb a 0) h) in
+    subst (λ (c : ℕ). T (level t b s c)) (sym p) (alike s t b (subst (λ (c : ℕ). T (level s c t b)) p h))
+  where
+    alike : (s t : Bool) (b : ℕ) → T (level s b t b) → T (level t b s b)
+    alike true true b h = h
+    alike true false b h = h
+    alike false true b h = h
+    alike false false b h = h
 
 -- ---- the other sign turns the order round
 pub neg-le : (x y : Float) → T (le x y) → T (le (neg y) (neg x))

@@ -1,8 +1,8 @@
 -- A finite value as a fraction with its sign taken apart: x is (plus x - less x) / den x. Then `le` and `lt` compare sums of products.
-use mathlib.Core.Path.{_≡_, refl, sym, ap, _∙_, subst}
-use mathlib.Core.Bool.{Bool, true, false, not, _&&_, _||_, Bool·beq}
-use mathlib.Core.Logic.{_⊎_, inl, inr}
-use Prim.Native.Nat.{ℕ, _+_, _*_, _≤_, _<_}
+use mathlib.Core.Path.{_≡_, refl, sym}
+use mathlib.Core.Bool.{Bool, true, false, _&&_, _||_}
+use mathlib.Core.Logic.{inl, inr}
+use Prim.Native.Nat.{ℕ, zero, suc, _+_, _*_, _≤_, _<_}
 use native.Mathlib.Nat.{eq-zero-or-pos, eq-or-lt-of-le}
 use native.Mathlib.Omega.{arith}
 use lib.Dec.{T, ltb, eqb, ltb→lt, lt→ltb, eqb→eq}
@@ -30,6 +30,10 @@ less (inf s) = 0
 less (fin s m e) = under s (m * up e)
 
 -- ---- ±a / p against ±b / q
+pub nothing : (a q b : ℕ) → 0 < q → a * q + b ≤ 0 → a ≡ 0
+nothing zero q b Q h = refl
+nothing (suc a) q b Q h = omega arith
+
 or-le : (a b : ℕ) (x : Bool) → (T x → a ≡ b) → T (ltb a b || (x && true)) → a ≤ b
 or-le a b x e = go (ltb a b) x (ltb→lt a b) e
   where

@@ -1,4 +1,5 @@
--- What the contracts of `leaves` cite (Num, Root, Whole, Order, Answer), and what is proved of it.
+-- Definitions: what the contracts of `leaves` cite (Num, Root, Order, Whole, Answer), and what is proved in (Value).
+-- Then what is proved of them: Ieee754 has the theorems against the standard, and Laws is what callers use.
 pub mod Num
 pub mod Root
 pub mod Order
@@ -10,11 +11,20 @@ pub mod Fraction
 pub mod FloatOrder
 pub mod OrderLaws
 pub mod Choice
-pub mod WholeLaws
 pub mod Rounded
 pub mod Monotone
+pub mod Commute
 pub mod RootLaws
 pub mod Encode
 pub mod Decode
 pub mod RootNearest
 pub mod Roots
+pub mod WholeLaws
+pub mod Floors
+pub mod FloorLaws
+pub mod Bounds
+pub mod RootBounds
+pub mod Squares
+pub mod CastLaws
+pub mod Ieee754
+pub mod Laws

@@ -1,15 +1,15 @@
 -- Sums, differences, products and quotients go up with an operand, or down, by the sign of the other one; each rounded once.
-use mathlib.Core.Path.{_≡_, refl, sym, ap, _∙_, subst}
-use mathlib.Core.Bool.{Bool, true, false, not, cond}
-use Prim.Native.Nat.{ℕ, zero, suc, _+_, _*_, _^_, _≤_, _<_}
+use mathlib.Core.Path.{_≡_, refl, ap}
+use mathlib.Core.Bool.{Bool, true, false}
+use Prim.Native.Nat.{ℕ, suc, _+_, _*_, _≤_, _<_}
 use native.Mathlib.Nat.{mul-pos, mul-le-mul-right}
 use native.Mathlib.Omega.{arith}
-use lib.Dec.{T, leb, leb→le, ltb→lt, lit<}
+use lib.Dec.{T, leb→le, lit<}
 use lib.IntN.{ℤ, pos, negsuc}
 use lib.Signed.{leZ}
 use borrow.Author.Tests.{ne-eqb}
-use lib.Ieee.{Float, nan, inf, fin, binary64, up, down, unlike, round, add, div, fits, lt, le, isNan}
-use lib.Ieee.Fits.{up-pos, down-pos}
+use lib.Ieee.{Float, nan, inf, fin, binary64, up, down, unlike, round, add, sub, div, fits, lt, le}
+use lib.Ieee.Fits.{down-pos}
 use lib.Ieee.Positive.{den, den-pos}
 use Rattle.leaves.specs.Num.{_⊕_, _⊖_, _⊗_, _⊘_, zero64, real}
 use Rattle.leaves.specs.Order.{finite}
@@ -112,20 +112,46 @@ div-anti x y y′ f g g′ p q q′ h =
     (omega (arith, mul-le-mul-right (plus x * den x) (rw (w .1, w′ .1) at (le→cross y y′ g g′ h))))
 
 -- ---- a sum with what is not below zero, and a difference with it
-pub add-up : (s l : Float) → T (fits binary64 s) → T (finite s) → T (finite l) → T (le zero64 l) → T (le s (s ⊕ l))
-add-up s l q f g p =
-    let z = at-least-zero l g p in
-    rounded-le (own-rounded s f q) (rw z at (add-rounded s l f g)) (den-pos s) (mul-pos (den-pos s) (den-pos l)) (omega arith)
+finite-up : (s l : Float) → T (fits binary64 s) → T (finite s) → T (finite l) → T (le zero64 l) → T (le s (s ⊕ l)) × T (le (s ⊖ l) s)
+finite-up s l q f g p =
+    let z = at-least-zero l g p in (
+      rounded-le (own-rounded s f q) (rw z at (add-rounded s l f g)) (den-pos s) (mul-pos (den-pos s) (den-pos l)) (omega arith),
+      rounded-le (rw z at (sub-rounded s l f g)) (own-rounded s f q) (mul-pos (den-pos s) (den-pos l)) (den-pos s) (omega arith),
+    )
 
-pub sub-down : (s l : Float) → T (fits binary64 s) → T (finite s) → T (finite l) → T (le zero64 l) → T (le (s ⊖ l) s)
-sub-down s l q f g p =
-    let z = at-least-zero l g p in
-    rounded-le (rw z at (sub-rounded s l f g)) (own-rounded s f q) (mul-pos (den-pos s) (den-pos l)) (den-pos s) (omega arith)
+pub add-up : (s l : Float) → T (fits binary64 s) → T (finite s) → T (le zero64 l) → T (le s (s ⊕ l))
+unfolding finite
+add-up nan l q f p = absurd f
+add-up (inf t) l q f p = absurd f
+add-up (fin t m e) nan q f p = unfold le in absurd p
+add-up (fin t m e) (inf true) q f p = unfold le in absurd p
+add-up (fin t m e) (inf false) q f p = unfold le add in tt
+add-up (fin t m e) (fin u n d) q f p = finite-up (fin t m e) (fin u n d) q tt tt p .0
+
+pub sub-down : (s l : Float) → T (fits binary64 s) → T (finite s) → T (le zero64 l) → T (le (s ⊖ l) s)
+unfolding finite
+sub-down nan l q f p = absurd f
+sub-down (inf t) l q f p = absurd f
+sub-down (fin t m e) nan q f p = unfold le in absurd p
+sub-down (fin t m e) (inf true) q f p = unfold le in absurd p
+sub-down (fin t m e) (inf false) q f p = unfold le sub in tt
+sub-down (fin t m e) (fin u n d) q f p = finite-up (fin t m e) (fin u n d) q tt tt p .1
 
 -- ---- results that are not below zero
-pub sum-up : (x y : Float) → T (finite x) → T (finite y) → T (le zero64 x) → T (le zero64 y) → T (le zero64 (x ⊕ y))
-sum-up x y f g p q =
-    rounded-le zero-rounded (rw (at-least-zero x f p, at-least-zero y g q) at (add-rounded x y f g)) (lit< tt) (mul-pos (den-pos x) (den-pos y)) (omega arith)
+pub sum-up : (x y : Float) → T (le zero64 x) → T (le zero64 y) → T (le zero64 (x ⊕ y))
+sum-up nan y p q = unfold le in absurd p
+sum-up (inf true) y p q = unfold le in absurd p
+sum-up (inf false) nan p q = unfold le in absurd q
+sum-up (inf false) (inf true) p q = unfold le in absurd q
+sum-up (inf false) (inf false) p q = unfold le add in tt
+sum-up (inf false) (fin t n d) p q = unfold le add in tt
+sum-up (fin s m e) nan p q = unfold le in absurd q
+sum-up (fin s m e) (inf true) p q = unfold le in absurd q
+sum-up (fin s m e) (inf false) p q = unfold le add in tt
+sum-up (fin s m e) (fin t n d) p q = unfold finite in
+    let x = fin s m e in
+    let y = fin t n d in
+    rounded-le zero-rounded (rw (at-least-zero x tt p, at-least-zero y tt q) at (add-rounded x y tt tt)) (lit< tt) (mul-pos (down-pos e) (down-pos d)) (omega arith)
 
 pub sub-up : (x y : Float) → T (finite x) → T (finite y) → T (le y x) → T (le zero64 (x ⊖ y))
 sub-up x y f g h = rounded-le zero-rounded (sub-rounded x y f g) (lit< tt) (mul-pos (den-pos x) (den-pos y)) (omega (arith, le→cross y x g f h))

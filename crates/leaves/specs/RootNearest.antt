@@ -1,15 +1,14 @@
 -- No finite f64 is as near to the exact root as the one that `root` gives: the proof. `IsRoot` of Value says what it comes to.
 use mathlib.Core.Path.{_≡_, refl, sym, ap, subst, _∙_}
-use mathlib.Core.Bool.{Bool, true, false, not, _&&_, cond}
+use mathlib.Core.Bool.{Bool, true, false, not, cond}
 use mathlib.Core.Logic.{_⊎_, inl, inr}
 use Prim.Native.Nat.{ℕ, zero, suc, _+_, _-_, _*_, _/_, _%_, _^_, _≤_, _<_, zero-le}
-use native.Mathlib.Nat.{mul-comm, mul-assoc, mul-left-comm, add-mul, one-mul, zero-mul, lt-irrefl, zero-lt-suc, lt-of-lt-of-le, lt-of-le-of-lt, le-trans, le-of-eq, le-of-lt, lt-of-not-le, not-le-of-lt, mul-le-mul, mul-le-mul-left, mul-le-mul-right, mul-lt-mul-of-pos-right, lt-of-mul-lt-mul-right, mul-div-cancel, mul-pos, eq-or-lt-of-le, pow-succ'}
+use native.Mathlib.Nat.{mul-assoc, add-mul, zero-mul, lt-irrefl, lt-of-lt-of-le, lt-of-le-of-lt, le-trans, le-of-eq, le-of-lt, lt-of-not-le, not-le-of-lt, mul-le-mul, mul-le-mul-left, mul-le-mul-right, mul-lt-mul-of-pos-right, lt-of-mul-lt-mul-right, mul-div-cancel, mul-pos, eq-or-lt-of-le, pow-succ'}
 use native.Mathlib.Decide.{decLe}
 use native.Mathlib.Omega.{arith}
-use lib.IntN.{ℤ}
 use lib.Pow.{pow-mono, pow-pos, pow-add}
 use lib.Dec.{T, leb, leb→le, nleb→lt}
-use lib.Ieee.{Float, fin, binary64, down, minus, size, odd, fits}
+use lib.Ieee.{down, minus, size, odd}
 use lib.Count.{trailingZeros}
 use lib.Ieee.Fits.{down-pos}
 use lib.Ieee.Digits.{odd-val, size-lt, size-le, size-reaches}

@@ -1,26 +1,27 @@
 -- The laws of `root`: what it gives is the correctly rounded root, and nothing else is; it goes up with its operand, and a bound's digits are halved.
 use mathlib.Core.Path.{_≡_, refl, sym, ap, subst, _∙_}
-use mathlib.Core.Bool.{Bool, true, false, not, _&&_}
-use Prim.Native.Nat.{ℕ, zero, suc, _+_, _*_, _/_, _^_, _≤_, _<_}
-use native.Mathlib.Nat.{zero-lt-suc, one-mul, mul-one, mul-assoc, mul-right-comm, mul-pos, mul-le-mul, mul-le-mul-right, mul-le-mul-left, mul-lt-mul-of-pos-right, le-trans, le-of-eq, le-of-lt, lt-of-le-of-lt, lt-of-lt-of-le, lt-of-not-le, not-le-of-lt, le-div-iff-mul-le, zero-mul}
-use native.Mathlib.Decide.{decLe, decLt}
+use mathlib.Core.Bool.{Bool, true, false, not, _||_, Bool·beq}
+use Prim.Native.Nat.{ℕ, zero, suc, _+_, _*_, _^_, _≤_, _<_}
+use native.Mathlib.Nat.{zero-lt-suc, one-mul, mul-right-comm, mul-pos, mul-le-mul-right, mul-lt-mul-of-pos-right, le-trans, le-of-eq, lt-of-le-of-lt, lt-of-lt-of-le, lt-of-not-le, not-le-of-lt, le-div-iff-mul-le}
+use native.Mathlib.Decide.{decLe}
 use native.Mathlib.Omega.{arith}
 use lib.IntN.{ℤ, pos, negsuc}
 use lib.Pow.{pow-pos, pow-add, pow-mono}
-use lib.Dec.{T, ltb, ltb→lt, lit<, lit≤}
+use lib.Dec.{T, eqb, eqb→eq, ltb→lt, lt→ltb, lit<}
 use lib.Ieee.{Float, nan, inf, fin, binary64, up, down, odd, fits, lt, le, eq}
-use lib.Ieee.Fits.{up-pos, down-pos, odd-fits, nan-fits, inf-fits}
+use lib.Ieee.Fits.{and-l, up-pos, down-pos, odd-fits, nan-fits, inf-fits}
 use lib.Ieee.Bits.{is-false}
-use lib.Ieee.Exact.{HasValue}
+use lib.Ieee.Exact.{HasValue, odd-sign}
 use lib.Ieee.Nearest.{div-mono}
 use lib.Ieee.Order.{le-of-values}
+use lib.Ieee.Positive.{positive, positive-of-value}
 use Rattle.leaves.specs.Num.{zero64}
 use Rattle.leaves.specs.Root.{root, rootUnits}
 use Rattle.leaves.specs.Order.{negative, finite}
 use Rattle.leaves.specs.Value.{unitsOf, Nearer, IsRoot}
-use Rattle.leaves.specs.Units.{grid, fine, units-lt, own-units, same-units, pow-le-back}
+use Rattle.leaves.specs.Units.{grid, fine, units-lt, own-units, same-units}
 use Rattle.leaves.specs.RootNearest.{Rooted, rooted, at-least, at-most, units-nearest}
-use Rattle.leaves.specs.Fraction.{le→cross, lt→cross, cross→le}
+use Rattle.leaves.specs.Fraction.{le→cross, cross→le}
 use Rattle.leaves.specs.FloatOrder as order
 
 -- ---- the value is above zero
@@ -58,6 +59,13 @@ small-places m k n low e h = go (decLe k 2000)
         absurd (not-le-of-lt h (le-trans (pow-mono (far k g))
         (le-trans (le-of-eq (pow-add 2 104 (k + k) ∙ ap (λ (x : ℕ). 2 ^ 104 * x) (pow-add 2 k k))) (le-trans (mul-le-mul-right (2 ^ k * 2 ^ k) low) (le-of-eq (sym e))))))
 
+positive-lt : (v : Float) → T (positive v) → T (lt zero64 v)
+unfolding lt
+positive-lt nan h = absurd h
+positive-lt (inf s) h = absurd h
+positive-lt (fin true m e) h = absurd h
+positive-lt (fin false m e) h = lt→ltb (0 * down e) (m * up e * 1) (omega (arith, mul-pos (ltb→lt 0 m h) (up-pos e)))
+
 root-opened : (m : ℕ) (e : ℤ) → root (fin false (suc m) e) ≡ rootUnits (unitsOf (fin false (suc m) e) * 2 ^ 1074)
 unfolding root unitsOf
 root-opened m e = refl
@@ -86,10 +94,16 @@ module _ (m : ℕ) (e : ℤ) (f : T (fits binary64 (fin false (suc m) e))) where
   above-fine : T (finite (root (fin false (suc m) e)))
   above-fine = rw root-is (odd-fine 54 false (z .q) (z .k) 1074)
 
-  above-negative : negative (root (fin false (suc m) e)) ≡ false
+  pub above-negative : negative (root (fin false (suc m) e)) ≡ false
   above-negative = ap negative root-is ∙ odd-negative 54 false (z .q) (z .k) 1074
 
-  above-is : IsRoot (fin false (suc m) e) (root (fin false (suc m) e))
+  above-zero : T (lt zero64 (root (fin false (suc m) e)))
+  above-zero =
+      let low : 2 ^ 52 ≤ z .q = at-least (z .m) (z .q) (z .near) (z .low) in
+      let v = odd 54 false (z .q) (z .k) 1074 in
+      rw root-is (positive-lt v (positive-of-value v (z .q * 2 ^ z .k) (2 ^ 1074) (odd-sign 54 false (z .q) (z .k) 1074) (mul-pos (lt-of-lt-of-le (lit< tt) low) (pow-pos (z .k)))))
+
+  pub above-is : IsRoot (fin false (suc m) e) (root (fin false (suc m) e))
   above-is = record {
     fit = above-fits;
     fine = above-fine;
@@ -98,7 +112,7 @@ module _ (m : ℕ) (e : ℤ) (f : T (fits binary64 (fin false (suc m) e))) where
   }
 
 -- ---- the operand, by cases
-nothing-below : (m : ℕ) (e : ℤ) → T (le zero64 (fin true (suc m) e)) → ⊥
+pub nothing-below : (m : ℕ) (e : ℤ) → T (le zero64 (fin true (suc m) e)) → ⊥
 unfolding finite
 nothing-below m e h = omega (arith, le→cross zero64 (fin true (suc m) e) tt tt h, mul-pos (zero-lt-suc m) (up-pos e))
 
@@ -140,12 +154,6 @@ zero-le s e (inf t) g h = absurd g
 zero-le true e (fin t n d) g h = cross→le (fin true 0 e) (fin t n d) tt tt (rw h (omega arith))
 zero-le false e (fin t n d) g h = cross→le (fin false 0 e) (fin t n d) tt tt (rw h (omega arith))
 
-le-inf : (v : Float) → T (finite v) → T (le v (inf false))
-unfolding finite le
-le-inf nan g = g
-le-inf (inf s) g = absurd g
-le-inf (fin s m e) g = tt
-
 -- never negative: the root of -0 is -0
 pub root-up : (x : Float) → T (fits binary64 x) → T (le zero64 x) → T (le zero64 (root x))
 root-up nan f h = unfold le in absurd h
@@ -154,6 +162,26 @@ root-up (inf false) f h = unfold root le in tt
 root-up (fin s zero e) f h = unfold root in h
 root-up (fin true (suc m) e) f h = absurd (nothing-below m e h)
 root-up (fin false (suc m) e) f h = zero-le false (pos 0) (root (fin false (suc m) e)) (above-fine m e f) (above-negative m e f)
+
+-- a zero is its own root
+pub root-of-zero : (x : Float) → T (eq x zero64) → root x ≡ x
+unfolding eq root
+root-of-zero nan h = refl
+root-of-zero (inf s) h = absurd h
+root-of-zero (fin s zero e) h = refl
+root-of-zero (fin s (suc m) e) h = absurd (some (suc m * up e) (mul-pos (zero-lt-suc m) (up-pos e)) (eqb→eq (suc m * up e * 1) (0 * down e) (and-l (eqb (suc m * up e * 1) (0 * down e)) (Bool·beq s false || eqb (suc m * up e * 1) 0) h)))
+  where
+    some : (a : ℕ) → 0 < a → a * 1 ≡ 0 * down e → ⊥
+    some a p q = omega arith
+
+-- above zero where x is
+pub root-above : (x : Float) → T (fits binary64 x) → T (lt zero64 x) → T (lt zero64 (root x))
+root-above nan f h = unfold lt in absurd h
+root-above (inf true) f h = unfold lt in absurd h
+root-above (inf false) f h = unfold root lt in tt
+root-above (fin s zero e) f h = absurd (not-above s e h)
+root-above (fin true (suc m) e) f h = unfold lt in absurd h
+root-above (fin false (suc m) e) f h = above-zero m e f
 
 -- ---- nothing else is the root, and a larger operand has no smaller one
 pub nearer-mono : (n n′ r r′ : ℕ) → n ≤ n′ → Nearer n r r′ → Nearer n′ r′ r → r ≤ r′
@@ -212,7 +240,7 @@ root-mono (fin s zero e) (fin false (suc n) d) f g p h = unfold root in zero-le 
 root-mono (fin true (suc m) e) y f g p h = absurd (nothing-below m e p)
 root-mono (fin false (suc m) e) nan f g p h = unfold le in absurd h
 root-mono (fin false (suc m) e) (inf true) f g p h = unfold le in absurd h
-root-mono (fin false (suc m) e) (inf false) f g p h = unfold root in le-inf (root (fin false (suc m) e)) (above-fine m e f)
+root-mono (fin false (suc m) e) (inf false) f g p h = unfold root in order.le-inf (root (fin false (suc m) e)) (order.finite-number (root (fin false (suc m) e)) (above-fine m e f))
 root-mono (fin false (suc m) e) (fin t zero d) f g p h = absurd (not-down m e t d h)
 root-mono (fin false (suc m) e) (fin true (suc n) d) f g p h = absurd (nothing-below n d (order.le-trans zero64 (fin false (suc m) e) (fin true (suc n) d) p h))
 root-mono (fin false (suc m) e) (fin false (suc n) d) f g p h = above-mono m n e d f g h

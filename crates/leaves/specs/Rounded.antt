@@ -1,27 +1,25 @@
 -- What an operation gives is a fraction (p - n) / c, rounded once, and rounding keeps the order: of signs too.
 use mathlib.Core.Path.{_≡_, refl, sym, ap, _∙_, subst}
-use mathlib.Core.Bool.{Bool, true, false, not, _&&_, cond, Bool·beq}
-use Prim.Native.Nat.{ℕ, zero, suc, _+_, _-_, _*_, _/_, _^_, _≤_, _<_}
-use native.Mathlib.Nat.{zero-mul, mul-pos, mul-assoc, mul-comm, mul-left-comm, mul-right-comm, lt-of-lt-of-le, le-of-eq, eq-of-mul-eq-mul-right}
+use mathlib.Core.Bool.{Bool, true, false, not, cond}
+use Prim.Native.Nat.{ℕ, zero, suc, _+_, _-_, _*_, _^_, _≤_, _<_}
+use native.Mathlib.Nat.{zero-mul, lt-of-lt-of-le, le-of-eq, eq-of-mul-eq-mul-right}
 use native.Mathlib.Omega.{arith}
-use lib.Dec.{T, ltb, eqb, ltb→lt, nltb→le, lit<}
-use lib.Pow.{pow-pos, pow-add}
-use lib.IntN.{ℤ, pos, negsuc}
-use borrow.Author.Tests.{ne-eqb}
-use lib.Ieee.{Float, nan, inf, fin, binary64, up, down, unlike, round, sum, add, sub, mul, div, neg, ofInt, fits, lt, le}
-use lib.Ieee.Fits.{down-pos, up-pos, round-fits}
+use lib.Dec.{T, ltb, ltb→lt, nltb→le, lit<}
+use lib.Pow.{pow-add}
+use lib.IntN.{ℤ, pos}
+use lib.Ieee.{Float, nan, inf, fin, Format, low, emax, prec, binary64, odd, units, up, down, unlike, round, sum, add, sub, mul, neg, fits, le}
+use lib.Ieee.Fits.{down-pos, round-fits, round-is}
 use lib.Ieee.Exact.{HasValue, round-exact}
 use lib.Ieee.Nearest.{div-same}
 use lib.Ieee.Order.{round-mono}
-use lib.Ieee.Positive.{den, den-pos}
+use lib.Ieee.Positive.{den}
 use lib.Ieee.Scale.{round-same}
 use Rattle.leaves.specs.Num.{zero64}
 use Rattle.leaves.specs.Order.{finite}
 use Rattle.leaves.specs.Value.{unitsOf}
 use Rattle.leaves.specs.Units.{grid, units-exact, units-lt, same-value}
-use Rattle.leaves.specs.Fraction.{over, under, plus, less}
+use Rattle.leaves.specs.Fraction.{over, under, plus, less, nothing}
 use Rattle.leaves.specs.FloatOrder.{le-trans, neg-le}
-use Rattle.leaves.specs.WholeLaws.{neg-round}
 
 -- v is (p - n) / c, rounded
 pub record Rounded (v : Float) (p n c : ℕ) : Type 0 where
@@ -29,6 +27,23 @@ pub record Rounded (v : Float) (p n c : ℕ) : Type 0 where
   pub size : ℕ
   pub is : v ≡ round binary64 sign size c
   pub value : over sign size + n ≡ p + under sign size
+
+-- ---- a number and its opposite round alike
+neg-odd : (d q k l : ℕ) → neg (odd d false q k l) ≡ odd d true q k l
+unfolding neg odd
+neg-odd d zero k l = refl
+neg-odd d (suc q) k l = refl
+
+neg-units : (f : Format) (q k : ℕ) → neg (units f false q k) ≡ units f true q k
+unfolding units neg
+neg-units f q k = go (ltb (q * 2 ^ k) (2 ^ (low f + suc (emax f))))
+  where
+    go : (b : Bool) → neg (cond b (odd (suc (prec f)) false q k (low f)) (inf false)) ≡ cond b (odd (suc (prec f)) true q k (low f)) (inf true)
+    go true = neg-odd (suc (prec f)) q k (low f)
+    go false = refl
+
+pub neg-round : (f : Format) (a d : ℕ) → neg (round f false a d) ≡ round f true a d
+neg-round f a d = ap neg (round-is f false a d) ∙ neg-units f _ _ ∙ sym (round-is f true a d)
 
 -- ---- the order
 pub round-up : (a b : ℕ) → 0 < b → T (le zero64 (round binary64 false a b))
@@ -39,10 +54,6 @@ round-zero : (s : Bool) (b : ℕ) → 0 < b → round binary64 s 0 b ≡ fin s 0
 round-zero true b B = round-same binary64 true 0 b 0 1 B (lit< tt) (omega arith) ∙ (unfold round in refl)
 round-zero false b B = round-same binary64 false 0 b 0 1 B (lit< tt) (omega arith) ∙ (unfold round in refl)
 
-none : (a d e : ℕ) → 0 < d → a * d + e ≤ 0 → a ≡ 0
-none zero d e D h = refl
-none (suc a) d e D h = omega (arith, mul-pos (lit< {m = 0} {n = 1} tt) D)
-
 pub round-le : (s t : Bool) (a b c d : ℕ) → 0 < b → 0 < d → over s a * d + under t c * b ≤ over t c * b + under s a * d → T (le (round binary64 s a b) (round binary64 t c d))
 round-le false false a b c d B D h = round-mono binary64 a b c d B D (omega arith)
 round-le true true a b c d B D h =
@@ -51,8 +62,8 @@ round-le true false a b c d B D h =
     le-trans (round binary64 true a b) (neg zero64) (round binary64 false c d) (rw (← neg-round binary64 a b) (neg-le zero64 (round binary64 false a b) (round-up a b B)))
     (le-trans (neg zero64) zero64 (round binary64 false c d) (unfold neg le in tt) (round-up c d D))
 round-le false true a b c d B D h =
-    let p : a ≡ 0 = none a d (c * b) D (omega arith) in
-    let q : c ≡ 0 = none c b (a * d) B (omega arith) in
+    let p : a ≡ 0 = nothing a d (c * b) D (omega arith) in
+    let q : c ≡ 0 = nothing c b (a * d) B (omega arith) in
     rw (p, q, round-zero false b B, round-zero true d D) (unfold le in tt)
 
 pub rounded-le : {v w : Float} {p n c p′ n′ c′ : ℕ} → Rounded v p n c → Rounded w p′ n′ c′ → 0 < c → 0 < c′ → p * c′ + n′ * c ≤ p′ * c + n * c′ → T (le v w)
@@ -82,7 +93,7 @@ unique-value (fin t m e) (fin u n d) s a c C f g h k =
     ∙ unique s m n e d a c C (subst (λ (b : Bool). T (fits binary64 (fin b m e))) (h .0) f) (subst (λ (b : Bool). T (fits binary64 (fin b n d))) (k .0) g) (h .1) (k .1)
     ∙ sym (ap (λ (b : Bool). fin b n d) (k .0))
 
-own-round : (s : Bool) (m : ℕ) (e : ℤ) → T (fits binary64 (fin s m e)) → fin s m e ≡ round binary64 s (m * up e) (down e)
+pub own-round : (s : Bool) (m : ℕ) (e : ℤ) → T (fits binary64 (fin s m e)) → fin s m e ≡ round binary64 s (m * up e) (down e)
 own-round s m e f =
     let g = grid (fin s m e) f in
     unique-value (fin s m e) (round binary64 s (m * up e) (down e)) s (m * up e) (down e) (down-pos e) f (round-fits binary64 s (m * up e) (down e)) (refl, refl)

@@ -1,10 +1,11 @@
 -- A finite f64 as a whole number of units of 2 ^ -1074, the smallest value, and what IEEE 754 asks of root, floor and ceiling in these numbers; bounds of size. Definitions only.
 use Prim.Native.Nat.{ℕ, _+_, _*_, _/_, _%_, _^_, _≤_, _<_}
 use mathlib.Core.Path.{_≡_}
-use mathlib.Core.Bool.{Bool, true, false, not, cond}
-use lib.IntN.{ℤ, pos, negℤ, _+ℤ_}
+use mathlib.Core.Bool.{true, false, not, cond}
+use lib.IntN.{ℤ, pos, negℤ, natAbs, _+ℤ_, _*ℤ_}
 use lib.Dec.{T}
-use lib.Ieee.{Float, nan, inf, fin, binary64, up, down, fits}
+use lib.Ieee.{Float, nan, inf, fin, binary64, up, down, eq, fits}
+use Rattle.leaves.specs.Num.{real}
 use Rattle.leaves.specs.Order.{negative, finite}
 
 -- the magnitude in units: of what fits f64 the division leaves no rest (`units-exact`)
@@ -50,6 +51,13 @@ pub record IsCeil (x r : Float) : Type 0 where
   pub rest : ℕ
   pub under-one : rest < 2 ^ 1074
   pub is : valueOf r ≡ valueOf x +ℤ pos rest
+
+-- v is the whole number k, which is at most 2 ^ n in size, and k as a float equals v: it is v, but for -0
+pub record IsWhole (n : ℕ) (v : Float) (k : ℤ) : Type 0 where
+  pub small : natAbs k ≤ 2 ^ n
+  pub exact : valueOf v ≡ k *ℤ pos (2 ^ 1074)
+  pub back : T (eq (real k) v)
+  pub same : T (not (negative v)) → real k ≡ v
 
 -- x is finite, and at most 2 ^ n in size
 unfoldable pub Within : ℕ → Float → Type 0

@@ -1,20 +1,22 @@
 -- The laws of `wholeOf`: below 2 ^ 53 the whole part is counted, from there on the value is whole.
 use mathlib.Core.Path.{_≡_, refl, sym, ap, subst, _∙_}
-use mathlib.Core.Bool.{Bool, true, false, not, _||_, _&&_, cond, true≢false}
-use Prim.Native.Nat.{ℕ, zero, suc, _+_, _-_, _*_, _/_, _%_, _^_, _≤_, _<_, min, compare}
-use native.Mathlib.Nat.{le-trans, le-of-eq, le-of-lt, lt-of-lt-of-le, lt-of-le-of-lt, lt-irrefl, not-le-of-lt, mul-one, one-mul, zero-mul, mul-comm, mul-assoc, mul-right-comm, mul-le-mul-left, mul-le-mul-right, mul-lt-mul-of-pos-right, lt-of-mul-lt-mul-right, div-lt-iff-lt-mul, div-one, div-add-mod', mod-lt, eq-zero-or-pos}
+use mathlib.Core.Bool.{Bool, true, false, cond, true≢false}
+use Prim.Native.Nat.{ℕ, zero, suc, _+_, _*_, _/_, _%_, _^_, _≤_, _<_}
+use native.Mathlib.Nat.{le-of-eq, le-of-lt, lt-of-le-of-lt, mul-one, zero-mul, mul-right-comm, mul-le-mul-right, mul-lt-mul-of-pos-right, div-lt-iff-lt-mul, div-one, div-add-mod'}
 use native.Mathlib.Decide.{decLt}
 use native.Mathlib.Omega.{arith}
 use lib.IntN.{ℤ, pos, negsuc}
-use lib.Pow.{pow-pos, pow-add, pow-mono}
-use lib.Dec.{T, ltb, eqb, leb, ltb→lt, lt→ltb, lit<}
+use lib.Pow.{pow-pos}
+use lib.Dec.{T, ltb, eqb, lt→ltb}
 use borrow.Author.Tests.{ltb-true, ltb-false, lt-ltb, le-ltb, eq-eqb, ne-eqb}
-use lib.Ieee.{Float, nan, inf, fin, Format, binary64, up, down, odd, units, nearest, size, round, lt, neg, fits, ofInt, toUnsigned}
-use lib.Ieee.Fits.{up-pos, down-pos, and-l, and-r, round-fits, round-is, core}
-use lib.Ieee.Exact.{HasValue, round-exact}
-use lib.Ieee.Back.{round-whole, whole-unique}
+use lib.Ieee.{Float, nan, inf, fin, binary64, up, down, round, lt, neg, fits, ofInt, toUnsigned}
+use lib.Ieee.Fits.{down-pos}
+use lib.Ieee.Exact.{HasValue}
+use lib.Ieee.Back.{round-whole}
 use Rattle.leaves.specs.Order.{negative, magnitude}
-use Rattle.leaves.specs.Whole.{part, wholeOf, floor, ceil}
+use Rattle.leaves.specs.Whole.{part, wholeOf}
+use Rattle.leaves.specs.Units.{short}
+use Rattle.leaves.specs.Rounded.{neg-round, own-round}
 
 clash : {X : Type 0} → true ≡ false → X
 clash e = absurd (true≢false e)
@@ -23,22 +25,6 @@ abbrev limit : Float
 limit = fin false 1 (pos 53)
 
 -- ---- the sign
-neg-odd : (d q k l : ℕ) → neg (odd d false q k l) ≡ odd d true q k l
-unfolding neg odd
-neg-odd d zero k l = refl
-neg-odd d (suc q) k l = refl
-
-neg-units : (f : Format) (q k : ℕ) → neg (units f false q k) ≡ units f true q k
-unfolding units neg
-neg-units f q k = go (ltb (q * 2 ^ k) (2 ^ (lib.Ieee.low f + suc (lib.Ieee.emax f))))
-  where
-    go : (b : Bool) → neg (cond b (odd (suc (lib.Ieee.prec f)) false q k (lib.Ieee.low f)) (inf false)) ≡ cond b (odd (suc (lib.Ieee.prec f)) true q k (lib.Ieee.low f)) (inf true)
-    go true = neg-odd (suc (lib.Ieee.prec f)) q k (lib.Ieee.low f)
-    go false = refl
-
-pub neg-round : (f : Format) (a d : ℕ) → neg (round f false a d) ≡ round f true a d
-neg-round f a d = ap neg (round-is f false a d) ∙ neg-units f _ _ ∙ sym (round-is f true a d)
-
 signed : (s : Bool) (a : ℕ) → cond s (neg (round binary64 false a 1)) (round binary64 false a 1) ≡ round binary64 s a 1
 signed true a = neg-round binary64 a 1
 signed false a = refl
@@ -127,42 +113,14 @@ no-part : (away : Bool) (a : ℕ) → part away a 1 ≡ a
 no-part false a = div-one a
 no-part true a = ap (λ (b : Bool). a / 1 + cond b 0 1) (eq-eqb (a % 1) 0 (omega arith)) ∙ native.Mathlib.Nat.add-zero (a / 1) ∙ div-one a
 
-small-digits : (m : ℕ) (e : ℤ) (s : Bool) → T (fits binary64 (fin s (suc m) e)) → suc m < 2 ^ 53
-unfolding fits
-small-digits m e s h =
-    let A = eqb (suc m % 2) 1 in
-    let B = ltb (suc m) (2 ^ 53) in
-    let C = leb (down e) (2 ^ 1074) in
-    let D = ltb (suc m * up e) (2 ^ 1024 * down e) in
-    ltb→lt (suc m) (2 ^ 53) (and-r A B (and-l (A && B) C (and-l (A && B && C) D h)))
-
-bounded : (m : ℕ) (e : ℤ) (s : Bool) → T (fits binary64 (fin s (suc m) e)) → suc m * up e < 2 ^ 1024 * down e
-unfolding fits
-bounded m e s h =
-    let A = eqb (suc m % 2) 1 in
-    let B = ltb (suc m) (2 ^ 53) in
-    let C = leb (down e) (2 ^ 1074) in
-    let D = ltb (suc m * up e) (2 ^ 1024 * down e) in
-    ltb→lt (suc m * up e) (2 ^ 1024 * down e) (and-r (A && B && C) D h)
-
--- a whole value is what it is rounded to
-whole-same : (s : Bool) (m k : ℕ) → T (fits binary64 (fin s (suc m) (pos k))) → fin s (suc m) (pos k) ≡ round binary64 s (suc m * 2 ^ k) 1
-whole-same s m k h =
-    let n = suc m * 2 ^ k in
-    let e : suc m * 2 ^ (k + 1074) ≡ n * 2 ^ 1074 = ap (λ (x : ℕ). suc m * x) (pow-add 2 k 1074) ∙ sym (mul-assoc (suc m) (2 ^ k) (2 ^ 1074)) in
-    let b : n < 2 ^ 1024 = lt-of-lt-of-le (bounded m (pos k) s h) (le-of-eq (mul-one (2 ^ 1024))) in
-    let c : suc m * 2 ^ (k + 1074) < 2 ^ 2098 = lt-of-le-of-lt (le-of-eq e) (lt-of-lt-of-le (mul-lt-mul-of-pos-right b (pow-pos 1074)) (le-of-eq (sym (pow-add 2 1024 1074)))) in
-    whole-unique binary64 (fin s (suc m) (pos k)) (round binary64 s n 1) s n h (round-fits binary64 s n 1) (refl, refl)
-    (round-exact binary64 s n 1 (suc m) (k + 1074) (lit< tt) (small-digits m (pos k) s h) c (sym e ∙ sym (mul-one (suc m * 2 ^ (k + 1074)))))
-
 pub whole-large : (away : Bool) (x : Float) → T (fits binary64 x) → lt (magnitude x) limit ≡ false → x ≡ wholeOf away x
 unfolding lt magnitude wholeOf
 whole-large away nan f h = refl
 whole-large away (inf s) f h = refl
 whole-large away (fin s zero e) f h = clash (sym (lt-ltb (0 * up e * 1) (1 * 2 ^ 53 * down e) (omega (arith, zero-mul (up e), down-pos e))) ∙ h)
-whole-large away (fin s (suc m) (pos k)) f h = whole-same s m k f ∙ ap (λ (n : ℕ). round binary64 s n 1) (sym (no-part away (suc m * 2 ^ k)))
+whole-large away (fin s (suc m) (pos k)) f h = own-round s (suc m) (pos k) f ∙ ap (λ (n : ℕ). round binary64 s n 1) (sym (no-part away (suc m * 2 ^ k)))
 whole-large away (fin s (suc m) (negsuc k)) f h =
-    clash (sym (lt-ltb (suc m * 1 * 1) (1 * 2 ^ 53 * 2 ^ suc k) (omega (arith, small-digits m (negsuc k) s f, pow-pos (suc k)))) ∙ h)
+    clash (sym (lt-ltb (suc m * 1 * 1) (1 * 2 ^ 53 * 2 ^ suc k) (omega (arith, short s (suc m) (negsuc k) f, pow-pos (suc k)))) ∙ h)
 
 -- ---- nothing is rounded: the value of `wholeOf` is the whole number
 at-most : (away : Bool) (a d : ℕ) → 0 < d → a < 2 ^ 53 * d → part away a d ≤ 2 ^ 53
@@ -180,9 +138,9 @@ unfolding wholeOf
 whole-exact away s zero e f = round-whole binary64 s (part away (0 * up e) (down e)) (at-most away (0 * up e) (down e) (down-pos e) (omega (arith, zero-mul (up e), down-pos e)))
 whole-exact away s (suc m) (pos k) f =
     let n = suc m * 2 ^ k in
-    subst (λ (n : ℕ). HasValue (round binary64 s n 1) s n 1) (sym (no-part away n)) (subst (λ (v : Float). HasValue v s n 1) (whole-same s m k f) (refl, refl))
+    subst (λ (n : ℕ). HasValue (round binary64 s n 1) s n 1) (sym (no-part away n)) (subst (λ (v : Float). HasValue v s n 1) (own-round s (suc m) (pos k) f) (refl, refl))
 whole-exact away s (suc m) (negsuc k) f =
-    round-whole binary64 s (part away (suc m * 1) (2 ^ suc k)) (at-most away (suc m * 1) (2 ^ suc k) (pow-pos (suc k)) (omega (arith, small-digits m (negsuc k) s f, pow-pos (suc k))))
+    round-whole binary64 s (part away (suc m * 1) (2 ^ suc k)) (at-most away (suc m * 1) (2 ^ suc k) (pow-pos (suc k)) (omega (arith, short s (suc m) (negsuc k) f, pow-pos (suc k))))
 
 -- ---- what the calls ask
 pub in-range : (a x : Float) → a ≡ magnitude x → lt a limit ≡ true → T (lt (fin true 1 (pos 0)) a) × T (lt a (fin false 1 (pos 64)))
