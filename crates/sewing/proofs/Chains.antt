@@ -41,25 +41,25 @@ module _ (n sections : ℕ) (d₀ : List ℕ) (m : Marked n sections d₀) where
       kept = take-set-le (3 * n) (set d (3 * n + i) v) (4 * n + s) i (omega arith) ∙ take-set-le (3 * n) d (3 * n + i) v (omega arith) ∙ l .kept;
       nexts = λ j a c. elim (either (eqb i j)) [
         | inl e ↦
-          let z = eqb-true i j e in
-          rw (← z)
-          (getD-set-other (set d (3 * n + i) v) (4 * n + s) (3 * n + i) i 0 (λ y. omega arith) ∙ getD-set-same d (3 * n + i) v 0 (omega (arith, l .size, m .room))
-          ∙ w ∙ l .firsts s b ∙ rw q)
+            let z = eqb-true i j e in
+            rw (← z)
+            (getD-set-other (set d (3 * n + i) v) (4 * n + s) (3 * n + i) i 0 (λ y. omega arith) ∙ getD-set-same d (3 * n + i) v 0 (omega (arith, l .size, m .room))
+            ∙ w ∙ l .firsts s b ∙ rw q)
         | inr e ↦
-          let z = eqb-false i j e in
-          getD-set-other (set d (3 * n + i) v) (4 * n + s) (3 * n + j) i 0 (λ y. omega arith) ∙ getD-set-other d (3 * n + i) (3 * n + j) v 0 (λ y. omega arith)
-          ∙ l .nexts j (omega arith) c
+            let z = eqb-false i j e in
+            getD-set-other (set d (3 * n + i) v) (4 * n + s) (3 * n + j) i 0 (λ y. omega arith) ∙ getD-set-other d (3 * n + i) (3 * n + j) v 0 (λ y. omega arith)
+            ∙ l .nexts j (omega arith) c
       ];
       firsts = λ t a. elim (either (eqb s t)) [
         | inl e ↦
-          let z = eqb-true s t e in
-          rw (front, ← q, e, ← z)
-          (getD-set-same (set d (3 * n + i) v) (4 * n + s) i 0 (omega (arith, length-set d (3 * n + i) v, l .size, m .room)))
+            let z = eqb-true s t e in
+            rw (front, ← q, e, ← z)
+            (getD-set-same (set d (3 * n + i) v) (4 * n + s) i 0 (omega (arith, length-set d (3 * n + i) v, l .size, m .room)))
         | inr e ↦
-          let z = eqb-false s t e in
-          rw (front, ← q, e)
-          (getD-set-other (set d (3 * n + i) v) (4 * n + s) (4 * n + t) i 0 (λ y. omega arith) ∙ getD-set-other d (3 * n + i) (4 * n + t) v 0 (λ y. omega arith)
-          ∙ l .firsts t a)
+            let z = eqb-false s t e in
+            rw (front, ← q, e)
+            (getD-set-other (set d (3 * n + i) v) (4 * n + s) (4 * n + t) i 0 (λ y. omega arith) ∙ getD-set-other d (3 * n + i) (4 * n + t) v 0 (λ y. omega arith)
+            ∙ l .firsts t a)
       ];
       behind = drop-set-lt (4 * n + sections) (set d (3 * n + i) v) (4 * n + s) i (omega arith) ∙ drop-set-lt (4 * n + sections) d (3 * n + i) v (omega arith) ∙ l .behind;
     }
@@ -82,9 +82,10 @@ module _ (n sections : ℕ) (d d₁ : List ℕ) (m : Marked n sections d) (p : P
   kept = put-kept d d₁ (replicate sections n) (4 * n) (omega (arith, m .room)) p
 
   pub cleared : Marked n sections d₁ × ((s : ℕ) → s < sections → getD d₁ (4 * n + s) 0 ≡ n)
-  cleared =
-      (record { room = omega (arith, size, m .room); below = λ i h. rw (read-on d₁ d (n + 2 * i) (4 * n) 0 (omega arith) kept) (m .below i h) },
-      λ s h. put-read d d₁ (replicate sections n) (4 * n) s 0 (omega (arith, m .room)) (omega (arith, length-replicate sections n)) p ∙ getD-replicate sections n s 0 h)
+  cleared = (
+    record { room = omega (arith, size, m .room); below = λ i h. rw (read-on d₁ d (n + 2 * i) (4 * n) 0 (omega arith) kept) (m .below i h) },
+    λ s h. put-read d d₁ (replicate sections n) (4 * n) s 0 (omega (arith, m .room)) (omega (arith, length-replicate sections n)) p ∙ getD-replicate sections n s 0 h,
+  )
 
   pub link-end : (d₂ : List ℕ) → Linking n sections 0 (numbersIn n d₁) d₁ d₂ → Put d d₂ (3 * n) (links (numbersIn n d) sections)
   link-end d₂ l =

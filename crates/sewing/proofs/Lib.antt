@@ -3,3 +3,4 @@ pub mod Signs
 pub mod Loops
 pub mod Chains
 pub mod Walks
+pub mod Shortcut

@@ -146,15 +146,15 @@ unfolding remEuclid
 rem-on (pos a) r n h = add-mod a r n
 rem-on (negsuc a) r n h = elim (either (ltb r (suc a))) [
   | inl e ↦
-    let l = ltb-true r (suc a) e in
-    let z = suc a - suc r in
-    rw e (settle n (n - 1 - z % n) (n - 1 - a % n + r % n) (a / n) 0 0 (r / n) (z / n) 0 (omega arith)
-    (omega (arith, mod-add-div a n, mod-add-div r n, mod-add-div z n, mod-lt a h, mod-lt r h, mod-lt z h)))
+      let l = ltb-true r (suc a) e in
+      let z = suc a - suc r in
+      rw e (settle n (n - 1 - z % n) (n - 1 - a % n + r % n) (a / n) 0 0 (r / n) (z / n) 0 (omega arith)
+      (omega (arith, mod-add-div a n, mod-add-div r n, mod-add-div z n, mod-lt a h, mod-lt r h, mod-lt z h)))
   | inr e ↦
-    let l = ltb-false r (suc a) e in
-    let z = r - suc a in
-    rw e (settle n (z % n) (n - 1 - a % n + r % n) (z / n) (a / n) 1 (r / n) 0 0 (mod-lt z h)
-    (omega (arith, mod-add-div a n, mod-add-div r n, mod-add-div z n, mod-lt a h, mod-lt r h, mod-lt z h)))
+      let l = ltb-false r (suc a) e in
+      let z = r - suc a in
+      rw e (settle n (z % n) (n - 1 - a % n + r % n) (z / n) (a / n) 1 (r / n) 0 0 (mod-lt z h)
+      (omega (arith, mod-add-div a n, mod-add-div r n, mod-add-div z n, mod-lt a h, mod-lt r h, mod-lt z h)))
 ]
 
 pub rem-back : (k : ℤ) (r n : ℕ) → 0 < n → remEuclid (k -ℤ pos r) n ≡ (remEuclid k n + (n - r % n)) % n
@@ -162,15 +162,15 @@ unfolding remEuclid
 rem-back k zero n h = rw (+ℤ-idr k) (settle n (remEuclid k n) (remEuclid k n + (n - 0 % n)) 1 0 0 0 0 0 (rem-lt k n h) (omega (arith, mod-add-div 0 n, mod-lt 0 h)))
 rem-back (pos a) (suc b) n h = elim (either (ltb a (suc b))) [
   | inl e ↦
-    let l = ltb-true a (suc b) e in
-    let z = suc b - suc a in
-    rw e (settle n (n - 1 - z % n) (a % n + (n - suc b % n)) (suc b / n) 0 0 (a / n) (z / n) 0 (omega arith)
-    (omega (arith, mod-add-div a n, mod-add-div (suc b) n, mod-add-div z n, mod-lt a h, mod-lt (suc b) h, mod-lt z h)))
+      let l = ltb-true a (suc b) e in
+      let z = suc b - suc a in
+      rw e (settle n (n - 1 - z % n) (a % n + (n - suc b % n)) (suc b / n) 0 0 (a / n) (z / n) 0 (omega arith)
+      (omega (arith, mod-add-div a n, mod-add-div (suc b) n, mod-add-div z n, mod-lt a h, mod-lt (suc b) h, mod-lt z h)))
   | inr e ↦
-    let l = ltb-false a (suc b) e in
-    let z = a - suc b in
-    rw e (settle n (z % n) (a % n + (n - suc b % n)) (z / n) (suc b / n) 1 (a / n) 0 0 (mod-lt z h)
-    (omega (arith, mod-add-div a n, mod-add-div (suc b) n, mod-add-div z n, mod-lt a h, mod-lt (suc b) h, mod-lt z h)))
+      let l = ltb-false a (suc b) e in
+      let z = a - suc b in
+      rw e (settle n (z % n) (a % n + (n - suc b % n)) (z / n) (suc b / n) 1 (a / n) 0 0 (mod-lt z h)
+      (omega (arith, mod-add-div a n, mod-add-div (suc b) n, mod-add-div z n, mod-lt a h, mod-lt (suc b) h, mod-lt z h)))
 ]
 rem-back (negsuc a) (suc b) n h =
     let z = suc (a + b) in

@@ -61,10 +61,10 @@ module _ (g : Settings) (stagger : ℕ) (e : Entry) (pen : P) where
   row-capped c cap h = elim (either (leb (length (needles g stagger (e .piece))) most)) [
     | inl k ↦ ap (λ l. capped cap (c + length l)) (row-same (leb-true (length (needles g stagger (e .piece))) most k))
     | inr k ↦
-      let b = leb-false (length (needles g stagger (e .piece))) most k in
-      let n : rowOf g stagger e .n ≡ most + 1 = capped-over most _ (omega (arith, needles-length g stagger (e .piece))) in
-      capped-over cap _ (omega (arith, n, sew-least (g .len) pen (targets (g .len) (rowOf g stagger e) 0 (rowOf g stagger e .n + 2)), targets-length (g .len) (rowOf g stagger e) 0 (rowOf g stagger e .n + 2)))
-      ∙ sym (capped-over cap _ (omega (arith, sew-least (g .len) pen (rowPoints g stagger e), row-length g stagger e)))
+        let b = leb-false (length (needles g stagger (e .piece))) most k in
+        let n : rowOf g stagger e .n ≡ most + 1 = capped-over most _ (omega (arith, needles-length g stagger (e .piece))) in
+        capped-over cap _ (omega (arith, n, sew-least (g .len) pen (targets (g .len) (rowOf g stagger e) 0 (rowOf g stagger e .n + 2)), targets-length (g .len) (rowOf g stagger e) 0 (rowOf g stagger e .n + 2)))
+        ∙ sym (capped-over cap _ (omega (arith, sew-least (g .len) pen (rowPoints g stagger e), row-length g stagger e)))
   ]
 
 -- ---- along a section
@@ -107,12 +107,12 @@ module _ (f : Field) (floats : List Float) (d : List ℕ) (s : ℕ) where
         let a : section (entriesIn f floats d) s ≡ rest j = whole in
         elim (either (ltb j (f .pieces))) [
           | inl t ↦
-            let k = ltb-true j (f .pieces) t in
-            let e = rest-next j k (start-on .1 k) in
-            ap (λ p. rest-sewn p j) (h k) ∙ ap (sewnFrom (f .g) (f .stagger) (startOf (entryAt f floats d j))) e ∙ sym (sewn-start (f .g) (f .stagger) (entryAt f floats d j) (rest (nextOf (numbersIn (f .pieces) d) j))) ∙ ap (sewn (f .g) (f .stagger)) (sym (a ∙ e))
+              let k = ltb-true j (f .pieces) t in
+              let e = rest-next j k (start-on .1 k) in
+              ap (λ p. rest-sewn p j) (h k) ∙ ap (sewnFrom (f .g) (f .stagger) (startOf (entryAt f floats d j))) e ∙ sym (sewn-start (f .g) (f .stagger) (entryAt f floats d j) (rest (nextOf (numbersIn (f .pieces) d) j))) ∙ ap (sewn (f .g) (f .stagger)) (sym (a ∙ e))
           | inr t ↦
-            let k = ltb-false j (f .pieces) t in
-            rest-none pen j k ∙ sym (sewn-empty (f .g) (f .stagger)) ∙ ap (sewn (f .g) (f .stagger)) (sym (a ∙ empty j k))
+              let k = ltb-false j (f .pieces) t in
+              rest-none pen j k ∙ sym (sewn-empty (f .g) (f .stagger)) ∙ ap (sewn (f .g) (f .stagger)) (sym (a ∙ empty j k))
         ]
       where
         whole : section (entriesIn f floats d) s ≡ rest (getD d (4 * f .pieces + s) 0)

@@ -52,9 +52,9 @@ module _ (s : ℕ) where
   seek-jump i (a ∷ l) = elim (either (eqb (a .section) s)) [
     | inl e ↦ let z : i - i ≡ 0 = omega arith in rw (e, z, e)
     | inr e ↦
-      let m = map (λ e. e .section) l in
-      let k : seek s (i + 1) m - i ≡ suc (seek s (i + 1) m - (i + 1)) = omega (arith, seek-low (i + 1) m) in
-      rw (e, k) (seek-jump (i + 1) l)
+        let m = map (λ e. e .section) l in
+        let k : seek s (i + 1) m - i ≡ suc (seek s (i + 1) m - (i + 1)) = omega (arith, seek-low (i + 1) m) in
+        rw (e, k) (seek-jump (i + 1) l)
   ]
 
 -- ---- the walk
@@ -64,13 +64,11 @@ module _ (es : List Entry) where
   numbers = map (λ e. e .section) es
 
   number-at : (j : ℕ) (e : Entry) → drop j es ≡ e ∷ drop (j + 1) es → getD numbers j 0 ≡ e .section
-
   number-at j e h =
       let z : j + 0 ≡ j = omega arith in
       rw z at (sym (getD-drop j numbers 0 0)) ∙ ap (λ l. getD l 0 0) (map-drop (λ e. e .section) j es ∙ ap (map (λ e. e .section)) h)
 
   jump : (s j : ℕ) → section (drop j es) s ≡ section (drop (seek s j (drop j numbers)) es) s
-
   jump s j =
       let m = drop j numbers in
       let z : j + (seek s j m - j) ≡ seek s j m = omega (arith, seek-low s j m) in
@@ -132,17 +130,17 @@ walk-section es s = go (length es) (firstOf ns s) (omega arith) (first-on ns s) 
     go zero j h on = sym (section-none es s j (omega arith))
     go (suc n) j h on = elim (either (ltb j (length es))) [
       | inl t ↦
-        let l : j < length es = ltb-true j (length es) t in
-        let e = getD es j (record { piece = record { k = pos 0; y = nan; xa = nan; xb = nan }; section = 0; nth = 0 }) in
-        let d : drop j es ≡ e ∷ drop (j + 1) es = next es j _ l in
-        let q : e .section ≡ s = sym (number-at es j e d) ∙ on (omega (arith, size)) in
-        let r = go n (nextOf ns j) (omega (arith, next-low ns j (omega (arith, size)))) (λ k. next-on ns j (omega (arith, size)) k ∙ on (omega (arith, size))) in
-        ap (λ m. take 1 m ++ walk es n (nextOf ns j)) d ∙ ap (λ m. e ∷ m) r ∙ sym (next-section es s j e d q)
+          let l : j < length es = ltb-true j (length es) t in
+          let e = getD es j (record { piece = record { k = pos 0; y = nan; xa = nan; xb = nan }; section = 0; nth = 0 }) in
+          let d : drop j es ≡ e ∷ drop (j + 1) es = next es j _ l in
+          let q : e .section ≡ s = sym (number-at es j e d) ∙ on (omega (arith, size)) in
+          let r = go n (nextOf ns j) (omega (arith, next-low ns j (omega (arith, size)))) (λ k. next-on ns j (omega (arith, size)) k ∙ on (omega (arith, size))) in
+          ap (λ m. take 1 m ++ walk es n (nextOf ns j)) d ∙ ap (λ m. e ∷ m) r ∙ sym (next-section es s j e d q)
       | inr t ↦
-        let l : length es ≤ j = ltb-false j (length es) t in
-        let b : j + 1 ≤ nextOf ns j = seek-low (getD ns j 0) (j + 1) (drop (j + 1) ns) in
-        ap (λ m. take 1 m ++ walk es n (nextOf ns j)) (drop-of-length-le es l)
-        ∙ go n (nextOf ns j) (omega arith) (λ k. absurd (omega (arith, size)))
-        ∙ section-none es s (nextOf ns j) (omega arith)
-        ∙ sym (section-none es s j l)
+          let l : length es ≤ j = ltb-false j (length es) t in
+          let b : j + 1 ≤ nextOf ns j = seek-low (getD ns j 0) (j + 1) (drop (j + 1) ns) in
+          ap (λ m. take 1 m ++ walk es n (nextOf ns j)) (drop-of-length-le es l)
+          ∙ go n (nextOf ns j) (omega arith) (λ k. absurd (omega (arith, size)))
+          ∙ section-none es s (nextOf ns j) (omega arith)
+          ∙ sym (section-none es s j l)
     ]

@@ -187,9 +187,9 @@ none-of-zero (inf false) = no-part false
 none-of-zero (fin t n d) = elim (either (eqb n 0)) [
   | inl e ↦ rw e
   | inr e ↦
-    let z : 0 * down d ≡ 0 = omega arith in
-    let k : 0 < n = omega (arith, eqb-false n 0 e) in
-    rw (e, z, null (unlike false t) (n * up d * 1) (mul-pos (mul-pos k (up-pos d)) (lit< tt))) (no-part (unlike false t))
+      let z : 0 * down d ≡ 0 = omega arith in
+      let k : 0 < n = omega (arith, eqb-false n 0 e) in
+      rw (e, z, null (unlike false t) (n * up d * 1) (mul-pos (mul-pos k (up-pos d)) (lit< tt))) (no-part (unlike false t))
 ]
 
 pub cuts-self : (l : Float) (p : P) → cuts l p p ≡ 0

@@ -6,9 +6,9 @@ pub mod section;
 pub mod stitch;
 
 pub use links::link;
+use rules::Settings;
 pub use section::count;
 pub use section::write;
-use rules::Settings;
 
 // What is sewn: the settings and the stagger, the number of the first row met, whether rows are met last first, and how many pieces there are.
 pub struct Field {

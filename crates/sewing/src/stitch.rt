@@ -1,7 +1,11 @@
 // From the pen to a target: how often the way is cut, counted and written.
 ghost use mathlib.Core.Path.{_≡_};
 ghost use Prim.Native.Nat.{_+_, _*_, _<_, _≤_, _^_};
+ghost use mathlib.Core.Bool.{_&&_};
 ghost use lib.ListN.{length};
+ghost use lib.Ieee.{lt, le};
+ghost use Rattle.leaves.specs.Num.{zero64};
+ghost use Rattle.leaves.specs.Order.{finite};
 ghost use Rattle.seqs.specs.Slices.{capped, Put};
 ghost use Rattle.geom.specs.Point.{point};
 ghost use Rattle.rules.specs.Standin.{flat};
@@ -10,6 +14,7 @@ use crate::row::Row;
 use crate::row::target_at;
 use geom::P;
 use leaves::ceil;
+use leaves::is_finite;
 use leaves::of_u64;
 use leaves::root;
 use leaves::to_u64;
@@ -21,9 +26,58 @@ pub struct Limits {
     pub two: f64,
 }
 
+// How many points cut a step of squared length d, by its root.
+fn cuts_by_root(d: f64, len: f64) -> u64
+    ensures { λ r. ⌜ r ≡ cutsFor len d ⌝ }
+{
+    let n = to_u64(ceil(root(d) / len));
+    if n == 0 {
+        return 0;
+    }
+    n - 1
+}
+
+// Whether len and d are finite, len above zero and d not below it.
+fn measures(len: f64, d: f64) -> bool
+    ensures { λ r. ⌜ r ≡ (lt zero64 len && (finite len && (le zero64 d && finite d))) ⌝ }
+{
+    if 0.0 < len {
+        if is_finite(len) {
+            if 0.0 <= d {
+                return is_finite(d);
+            }
+            return false;
+        }
+        return false;
+    }
+    false
+}
+
+// The squares of len, of the next float above it and of twice len, each tried by a root: cuts never fall as a step grows.
 pub fn limits_of(len: f64) -> Limits
     ensures { λ r. ⌜ Decides len r ⌝ }
 {
+    let d = len * len;
+    let up = len + len * 1.2e-16;
+    let a = up * up;
+    let b = 4.0 * d;
+    if measures(len, d) {
+        if measures(len, a) {
+            if measures(len, b) {
+                if cuts_by_root(d, len) == 0 {
+                    if 1 <= cuts_by_root(a, len) {
+                        if cuts_by_root(b, len) <= 1 {
+                            return Limits {
+                                one: d,
+                                from: a,
+                                two: b,
+                            };
+                        }
+                    }
+                }
+            }
+        }
+    }
     let none = 0.0 / 0.0;
     Limits {
         one: none,
@@ -45,11 +99,7 @@ fn cuts_for(d: f64, len: f64, m: Limits) -> u64
             return 1;
         }
     }
-    let n = to_u64(ceil(root(d) / len));
-    if n == 0 {
-        return 0;
-    }
-    n - 1
+    cuts_by_root(d, len)
 }
 
 fn cuts_to(px: f64, py: f64, x: f64, y: f64, len: f64, m: Limits) -> u64
@@ -108,7 +158,16 @@ pub fn count_row(len: f64, m: Limits, w: Row, pen: P, c0: u64, cap: u64) -> u64
 }
 
 // A row's points, sewn from the pen and turned back, from k on.
-pub fn put_row(out: &mut [f64], k: usize, len: f64, m: Limits, w: Row, pen: P, c: f64, s: f64) -> usize
+pub fn put_row(
+    out: &mut [f64],
+    k: usize,
+    len: f64,
+    m: Limits,
+    w: Row,
+    pen: P,
+    c: f64,
+    s: f64,
+) -> usize
     requires { ⌜ Decides len m × Near w × (k + length (flat (back c s (sewTo len pen (targets len w 0 (w .n + 2))))) ≤ length (now out)) ⌝ }
     ensures { λ r. ⌜ Put (now (out .entry)) (now (out .exit)) k (flat (back c s (sewTo len pen (targets len w 0 (w .n + 2))))) × (r ≡ k + length (flat (back c s (sewTo len pen (targets len w 0 (w .n + 2)))))) ⌝ }
 {

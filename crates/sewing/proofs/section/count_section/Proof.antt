@@ -50,9 +50,13 @@ loop-again c =
     let a = c .before .before .before .before .before .before .before .before .before .before .before .before .args in
     let l = c .before .before .before .before .before .loop in
     let h = c .before .before .before .before .loop-test .taken in
-    let q = l .inv .3 h in
-    (c .if1 .left, step-high (a .f) (a .floats .now) (a .wholes .now) (a .s) (c .before .before .before .before .before .before .before .before .before .before .before .before .pre .0) (l .j) h q, refl, step-on (a .f) (a .floats .now) (a .wholes .now) (a .s) (c .before .before .before .before .before .before .before .before .before .before .before .before .pre .0) (l .j) h q,
-    count-on (a .f) (a .floats .now) (a .wholes .now) (a .s) (c .before .before .before .before .before .before .before .before .before .before .before .before .pre .0) (l .j) h q (l .pen) (c .before .before .row-at .result) (c .before .before .row-at .ensures .0) (l .c) (c .before .count-row .result) (a .cap) (c .before .before .before .before .before .before .before .before .before .before .before .before .pre .3) (c .before .count-row .ensures) (c .if1 .left) ∙ l .inv .4)
+    let q = l .inv .3 h in (
+      c .if1 .left,
+      step-high (a .f) (a .floats .now) (a .wholes .now) (a .s) (c .before .before .before .before .before .before .before .before .before .before .before .before .pre .0) (l .j) h q,
+      refl,
+      step-on (a .f) (a .floats .now) (a .wholes .now) (a .s) (c .before .before .before .before .before .before .before .before .before .before .before .before .pre .0) (l .j) h q,
+      count-on (a .f) (a .floats .now) (a .wholes .now) (a .s) (c .before .before .before .before .before .before .before .before .before .before .before .before .pre .0) (l .j) h q (l .pen) (c .before .before .row-at .result) (c .before .before .row-at .ensures .0) (l .c) (c .before .count-row .result) (a .cap) (c .before .before .before .before .before .before .before .before .before .before .before .before .pre .3) (c .before .count-row .ensures) (c .if1 .left) ∙ l .inv .4,
+    )
 
 returns-2 : tie.Need-returns-2 Inv-loop μ-loop
 returns-2 c =

@@ -65,9 +65,12 @@ loop-again c =
     let e = put-on (a .f) (a .floats .now) (a .wholes .now) (a .s) (c .before .before .before .before .before .before .before .before .before .before .before .before .before .before .before .pre .0) (l .j) h q (l .pen) w (c .before .before .before .before .row-at .ensures .0) (omega (arith, b, front-count (l .inv .3), l .inv .1 .1)) in
     let m = flat (back (a .f .g .cosine) (a .f .g .sine) (sewTo (a .f .g .len) (l .pen) (targets (a .f .g .len) w 0 (w .n + 2)))) in
     let rest = flat (rest-sewn (a .f) (a .floats .now) (a .wholes .now) (a .s) (point (w .last) (w .y)) (getD (a .wholes .now) (3 * a .f .pieces + l .j) 0)) in
-    let d = front-at e (l .inv .3) in
-    (step-high (a .f) (a .floats .now) (a .wholes .now) (a .s) (c .before .before .before .before .before .before .before .before .before .before .before .before .before .before .before .pre .0) (l .j) h q, (refl, l .inv .1 .1), step-on (a .f) (a .floats .now) (a .wholes .now) (a .s) (c .before .before .before .before .before .before .before .before .before .before .before .before .before .before .before .pre .0) (l .j) h q,
-    rw (c .before .before .put-row .ensures .1) (front-whole m rest _ d (front-room-block m rest d b) (c .before .before .put-row .ensures .0)))
+    let d = front-at e (l .inv .3) in (
+      step-high (a .f) (a .floats .now) (a .wholes .now) (a .s) (c .before .before .before .before .before .before .before .before .before .before .before .before .before .before .before .pre .0) (l .j) h q,
+      (refl, l .inv .1 .1),
+      step-on (a .f) (a .floats .now) (a .wholes .now) (a .s) (c .before .before .before .before .before .before .before .before .before .before .before .before .before .before .before .pre .0) (l .j) h q,
+      rw (c .before .before .put-row .ensures .1) (front-whole m rest _ d (front-room-block m rest d b) (c .before .before .put-row .ensures .0)),
+    )
 
 same-length : tie.Need-same-length Inv-loop μ-loop
 same-length c = c .before .loop .inv .3 .len

@@ -70,9 +70,10 @@ unfolding sewnPoints
 returns c =
     let a = c .before .before .before .before .before .before .before .args in
     let l = c .before .loop in
-    let es = entriesIn (a .f) (a .floats .now) (a .wholes .now) in
-    ((front-end (front-at (ap (λ y. flat (each (λ x. x) y)) (all-none (a .f .g) (a .f .stagger) es (l .s) (a .sections) (search needs)) ∙ flat-none) (l .inv .1))),
-    (front-end (front-at (ends-none (a .f .g) (a .f .stagger) es (l .s) (a .sections) (l .at / 2) (search needs)) (l .inv .2))))
+    let es = entriesIn (a .f) (a .floats .now) (a .wholes .now) in (
+      (front-end (front-at (ap (λ y. flat (each (λ x. x) y)) (all-none (a .f .g) (a .f .stagger) es (l .s) (a .sections) (search needs)) ∙ flat-none) (l .inv .1))),
+      (front-end (front-at (ends-none (a .f .g) (a .f .stagger) es (l .s) (a .sections) (l .at / 2) (search needs)) (l .inv .2))),
+    )
 
 pub write-spec : {M : Type 1} → statement M
 write-spec =
