@@ -1,15 +1,13 @@
 -- The turns of the writing and counting loops. Assumes nothing.
-use mathlib.Core.Path.{_≡_, refl, sym, ap, _∙_}
-use mathlib.Core.Bool.{Bool, true, false}
+use mathlib.Core.Path.{_≡_, ap, _∙_}
 use mathlib.Core.List.{List, [], _∷_, _++_, map}
-use Prim.Native.Nat.{ℕ, zero, suc, _+_, _-_, _*_, _≤_, _<_}
+use Prim.Native.Nat.{ℕ, suc, _+_, _-_, _*_, _≤_, _<_}
 use native.Mathlib.Omega.{arith}
 use lib.IntN.{pos}
-use lib.ListN.{length, take, drop}
+use lib.ListN.{length}
 use lib.Ieee.{Float}
 use Rattle.leaves.specs.Num.{_⊘_, real}
 use Rattle.seqs.specs.Lists.{upto}
-use Rattle.seqs.specs.Upto.{upto-next, upto-none}
 use Rattle.geom.specs.declared.point.P.{P}
 use Rattle.geom.specs.Point.{point, rotate, lerp}
 use Rattle.rules.specs.Standin.{flat}

@@ -1,11 +1,10 @@
 -- Squared lengths that decide with no root: a longer step has no fewer cuts. Assumes nothing.
-use Prim.Native.Nat.{ℕ, zero, suc, _+_, _-_, _≤_, _<_}
+use Prim.Native.Nat.{_≤_}
 use native.Mathlib.Omega.{arith}
-use mathlib.Core.Path.{_≡_, refl, sym, ap, _∙_, subst}
-use mathlib.Core.Bool.{Bool, true, false, _&&_}
+use mathlib.Core.Path.{_≡_, refl}
+use mathlib.Core.Bool.{true, false, _&&_}
 use mathlib.Core.Logic.{inl, inr}
 use lib.Dec.{T}
-use lib.IntN.{ℤ}
 use lib.Ieee.{Float, nan, inf, fin, binary64, fits, le, lt, eq, div, toUnsigned, isNan}
 use Rattle.leaves.specs.Num.{_⊘_, zero64}
 use Rattle.leaves.specs.Order.{finite}
@@ -13,8 +12,7 @@ use Rattle.leaves.specs.Root.{root}
 use Rattle.leaves.specs.Whole.{wholeOf, ceil}
 use Rattle.leaves.specs.Laws as laws
 use Rattle.leaves.specs.Laws.{holds}
-use Rattle.seqs.specs.Tests.{clash, either, and-both}
-use Rattle.sewing.specs.declared.stitch.Limits.{Limits}
+use Rattle.seqs.specs.Tests.{clash, and-both}
 use Rattle.sewing.specs.Sewing.{cutsFor, Decides}
 
 -- nothing is at most a NaN

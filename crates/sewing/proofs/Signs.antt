@@ -1,22 +1,22 @@
 -- Signed numbers by their sign: how many lie between two, remainders, and sums that fit. Assumes nothing.
 use mathlib.Core.Path.{_≡_, refl, sym, ap, _∙_}
-use mathlib.Core.Bool.{Bool, true, false, cond}
+use mathlib.Core.Bool.{Bool, true, false}
 use Prim.Native.Nat.{ℕ, zero, suc, _+_, _-_, _*_, _/_, _%_, _^_, _<_, _≤_}
 use native.Mathlib.Nat.{mod-lt, mod-eq-of-lt, add-mod, add-mul-mod-self-left, mod-add-div}
 use native.Mathlib.Omega.{arith}
 use lib.Ieee.{Float, toSigned}
 use lib.Ieee.Casts.{toSigned-in}
 use lib.Dec.{T, leb, ltb, leb·zero}
-use lib.IntN.{ℤ, pos, negsuc, _+ℤ_, _-ℤ_, sucℤ, natAbs, +ℤ-one, +ℤ-idl, +ℤ-idr}
+use lib.IntN.{ℤ, pos, negsuc, _+ℤ_, _-ℤ_, natAbs, +ℤ-one, +ℤ-idl, +ℤ-idr}
 use lib.Signed.{mag, leZ, ltZ, nonNeg}
-use borrow.Author.Tests.{leb-true, leb-false, ltb-true, ltb-false, le-leb, lt-leb, lt-ltb, le-ltb}
+use borrow.Author.Tests.{leb-true, ltb-true, ltb-false, le-leb, lt-leb, le-ltb}
 use mir.Syntax.{w64}
 use mir.Val.{SFits, toZ, ofZ}
 use mir.ValLaws.{toZ-ofZ}
 use mathlib.Core.Logic.{inl, inr}
 use Rattle.seqs.specs.Tests.{clash, either}
 use Rattle.seqs.specs.Slices.{capped}
-use Rattle.seqs.specs.Capped.{capped-in, capped-over, capped-cases}
+use Rattle.seqs.specs.Capped.{capped-in, capped-cases}
 use Rattle.rules.specs.Fill.{howMany, remEuclid}
 use Rattle.sewing.specs.declared.row.Row.{Row}
 use Rattle.sewing.specs.Sewing.{most, Near, rowNumber, phaseOf}
@@ -136,10 +136,10 @@ settle n x y u₁ u₂ u₃ v₁ v₂ v₃ h e = sym (mod-eq-of-lt h) ∙ sym (o
     off : (x u v w : ℕ) → (x + n * u + n * v + n * w) % n ≡ x % n
     off x u v w = add-mul-mod-self-left (x + n * u + n * v) n w ∙ add-mul-mod-self-left (x + n * u) n v ∙ add-mul-mod-self-left x n u
 
-rem-lt : (k : ℤ) (n : ℕ) → 0 < n → remEuclid k n < n
+pub rem-below : (k : ℤ) (n : ℕ) → 0 < n → remEuclid k n < n
 unfolding remEuclid
-rem-lt (pos a) n h = mod-lt a h
-rem-lt (negsuc a) n h = omega arith
+rem-below (pos a) n h = mod-lt a h
+rem-below (negsuc a) n h = omega arith
 
 pub rem-on : (k : ℤ) (r n : ℕ) → 0 < n → remEuclid (k +ℤ pos r) n ≡ (remEuclid k n + r % n) % n
 unfolding remEuclid
@@ -159,7 +159,7 @@ rem-on (negsuc a) r n h = elim (either (ltb r (suc a))) [
 
 pub rem-back : (k : ℤ) (r n : ℕ) → 0 < n → remEuclid (k -ℤ pos r) n ≡ (remEuclid k n + (n - r % n)) % n
 unfolding remEuclid
-rem-back k zero n h = rw (+ℤ-idr k) (settle n (remEuclid k n) (remEuclid k n + (n - 0 % n)) 1 0 0 0 0 0 (rem-lt k n h) (omega (arith, mod-add-div 0 n, mod-lt 0 h)))
+rem-back k zero n h = rw (+ℤ-idr k) (settle n (remEuclid k n) (remEuclid k n + (n - 0 % n)) 1 0 0 0 0 0 (rem-below k n h) (omega (arith, mod-add-div 0 n, mod-lt 0 h)))
 rem-back (pos a) (suc b) n h = elim (either (ltb a (suc b))) [
   | inl e ↦
       let l = ltb-true a (suc b) e in
@@ -181,9 +181,6 @@ pub phase-is : (k : ℤ) (down : Bool) (r n : ℕ) → 0 < n → phaseOf (remEuc
 unfolding phaseOf
 phase-is k true r n h = sym (rem-back k r n h)
 phase-is k false r n h = sym (rem-on k r n h)
-
-pub rem-below : (k : ℤ) (n : ℕ) → 0 < n → remEuclid k n < n
-rem-below k n h = rem-lt k n h
 
 pub signed-fits : (x : Float) → SFits w64 (toSigned 63 x)
 signed-fits x = record { sfits = toSigned-in 63 x }

@@ -1,13 +1,12 @@
 -- The turns of the loops along a section, and over all sections. Assumes nothing.
-use mathlib.Core.Path.{_≡_, refl, sym, ap, _∙_}
-use mathlib.Core.Bool.{Bool, true, false}
+use mathlib.Core.Path.{_≡_, sym, ap, _∙_}
 use mathlib.Core.Logic.{inl, inr}
 use mathlib.Core.List.{List, [], _∷_, _++_, map}
-use Prim.Native.Nat.{ℕ, zero, suc, _+_, _-_, _*_, _/_, _^_, _≤_, _<_}
+use Prim.Native.Nat.{ℕ, _+_, _-_, _*_, _/_, _^_, _≤_, _<_}
 use native.Mathlib.Omega.{arith}
 use lib.Dec.{leb, ltb}
 use lib.IntN.{pos}
-use lib.ListN.{length, take, drop, getD, length-append}
+use lib.ListN.{length, drop, getD, length-append}
 use lib.Ieee.{Float}
 use borrow.Author.Tests.{ltb-true, ltb-false, leb-true, leb-false}
 use Rattle.leaves.specs.Num.{_⊗_, _⊘_, real}
@@ -28,7 +27,7 @@ use Rattle.sewing.specs.declared.Field.{Field}
 use Rattle.sewing.specs.declared.row.Row.{Row}
 use Rattle.sewing.specs.declared.piece.Thread.{Thread}
 use Rattle.sewing.specs.Sewing.{rowNumber, most, entryAt, entriesIn, numbersIn, firstSections, firstOf, nextOf, Linked, startOf, endOf, rowBy, rowOf, targets, phaseOf, Ready, sewTo, back, sewnFrom}
-use Rattle.sewing.specs.Flat.{flat-length, flat-append, flat-none}
+use Rattle.sewing.specs.Flat.{flat-length, flat-append}
 use Rattle.sewing.specs.RowLaws.{targets-length, row-points, row-length, needles-length}
 use Rattle.sewing.specs.SewLaws.{sew-least, back-length, sewn-none, sewn-next, sewn-start, sewn-empty}
 use Rattle.sewing.specs.LinkLaws.{first-section, next-section, first-on, first-high, next-low, next-high, next-on}

@@ -5,3 +5,4 @@ pub mod LinkLaws
 pub mod RowLaws
 pub mod LinkedLaws
 pub mod SewLaws
+pub mod Tatami

@@ -1,9 +1,8 @@
 -- Links: a walk along them meets the pieces of a section, in order; what `link` writes is what sewing asks for. Assumes nothing.
-use Prim.Native.Nat.{ℕ, zero, suc, _+_, _-_, _*_, _≤_, _<_}
+use Prim.Native.Nat.{ℕ, zero, suc, _+_, _-_, _≤_, _<_}
 use native.Mathlib.Omega.{arith}
 use mathlib.Core.Path.{_≡_, refl, sym, ap, _∙_}
-use mathlib.Core.Bool.{Bool, true, false, cond}
-use mathlib.Core.Logic.{_⊎_, inl, inr}
+use mathlib.Core.Logic.{inl, inr}
 use mathlib.Core.List.{List, [], _∷_, _++_, map}
 use lib.Dec.{ltb, eqb}
 use lib.ListN.{length, take, drop, getD, length-map, length-drop, drop-of-length-le}
@@ -11,7 +10,6 @@ use lib.Seq.{drop-drop, drop-nil, getD-drop}
 use lib.IntN.{pos}
 use lib.Ieee.{nan}
 use borrow.Author.Tests.{eqb-true, eq-eqb, ltb-true, ltb-false}
-use Rattle.seqs.specs.Lists.{upto, keepIf, sift}
 use Rattle.seqs.specs.Tests.{either}
 use Rattle.seqs.specs.Front.{next}
 use Rattle.rules.specs.declared.Entry.{Entry}

@@ -1,18 +1,15 @@
 -- A row's points are its targets by index. Assumes nothing.
-use Prim.Native.Nat.{ℕ, zero, suc, _+_, _-_, _*_, _%_, _≤_, _<_}
+use Prim.Native.Nat.{ℕ, zero, suc, _+_, _-_, _≤_, _<_}
 use native.Mathlib.Omega.{arith}
 use mathlib.Core.Path.{_≡_, refl, sym, ap, _∙_}
 use mathlib.Core.Bool.{Bool, true, false, cond}
-use mathlib.Core.Logic.{inl, inr}
 use mathlib.Core.List.{List, [], _∷_, _++_, map, reverse, reverse-cons, reverse-append}
-use lib.Dec.{ltb, eqb}
-use lib.IntN.{ℤ, pos, _+ℤ_}
+use lib.IntN.{pos, _+ℤ_}
 use lib.ListN.{length, length-map, length-append, length-reverse}
 use lib.Ieee.{Float}
 use borrow.Author.Tests.{lt-ltb, le-ltb, ne-eqb}
 use Rattle.leaves.specs.Num.{_⊕_, _⊗_, real}
 use Rattle.seqs.specs.Lists.{upto}
-use Rattle.seqs.specs.Tests.{either}
 use Rattle.seqs.specs.Upto.{upto-append, upto-length, upto-next, upto-none}
 use Rattle.seqs.specs.Capped.{capped-in}
 use Rattle.geom.specs.declared.point.P.{P}

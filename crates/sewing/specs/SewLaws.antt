@@ -1,19 +1,19 @@
 -- A section is sewn row by row, each from the end of the one before; a gap is its cuts and its end. Assumes nothing.
-use Prim.Native.Nat.{ℕ, zero, suc, _+_, _-_, _*_, _%_, _≤_, _<_}
+use Prim.Native.Nat.{ℕ, zero, suc, _+_, _-_, _*_, _≤_, _<_}
 use native.Mathlib.Omega.{arith}
 use native.Mathlib.Nat.{mul-pos}
 use mathlib.Core.Path.{_≡_, refl, sym, ap, _∙_, subst}
-use mathlib.Core.Bool.{Bool, true, false, cond, _&&_}
+use mathlib.Core.Bool.{Bool, true, false, cond}
 use mathlib.Core.Logic.{_⊎_, inl, inr}
 use mathlib.Core.List.{List, [], _∷_, _++_, map, reverse, reverse-cons, reverse-append, append-assoc}
-use lib.Dec.{T, ltb, eqb, lit<}
+use lib.Dec.{eqb, lit<}
 use lib.IntN.{pos}
 use lib.ListN.{length, length-map, length-append}
 use lib.Ieee.{Float, nan, inf, fin, binary64, add, sub, mul, div, neg, sum, round, toUnsigned, up, down, unlike}
 use lib.Ieee.Scale.{round-same}
 use lib.Ieee.Fits.{up-pos, down-pos}
 use borrow.Author.Tests.{le-ltb, eqb-false}
-use Rattle.leaves.specs.Num.{_⊕_, _⊖_, _⊗_, _⊘_, real, zero64}
+use Rattle.leaves.specs.Num.{_⊖_, _⊘_, real, zero64}
 use Rattle.leaves.specs.Order.{negative}
 use Rattle.leaves.specs.Root.{root}
 use Rattle.leaves.specs.Whole.{wholeOf, ceil}

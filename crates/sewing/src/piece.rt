@@ -1,6 +1,6 @@
 // A piece read from the working slices, as the row that is sewn.
 ghost use mathlib.Core.Path.{_≡_};
-ghost use Prim.Native.Nat.{_+_, _*_, _<_, _≤_, _^_};
+ghost use Prim.Native.Nat.{_+_, _*_, _%_, _<_, _≤_, _^_};
 ghost use lib.ListN.{length};
 ghost use Rattle.rules.specs.Fill.{cycle};
 ghost use Rattle.sewing.specs.Sewing.{entryAt, startOf, rowOf, Near, phaseOf, Ready};
@@ -50,6 +50,17 @@ pub fn ready(f: Field) -> Thread
     }
 }
 
+// p's remainder by n, for a p below twice n.
+fn wrap(p: u64, n: u64) -> u64
+    requires { ⌜ p < n + n ⌝ }
+    ensures { λ r. ⌜ r ≡ p % n ⌝ }
+{
+    if p < n {
+        return p;
+    }
+    p - n
+}
+
 // The place of row r in the cycle of n, where the first row met has the place `start`.
 fn phase(start: u64, r: usize, n: u64, down: bool) -> u64
     requires { ⌜ (0 < n) × (n ≤ 2 ^ 32) × (start < n) ⌝ }
@@ -57,9 +68,9 @@ fn phase(start: u64, r: usize, n: u64, down: bool) -> u64
 {
     let m = (r as u64) % n;
     if down {
-        return (start + (n - m)) % n;
+        return wrap(start + (n - m), n);
     }
-    (start + m) % n
+    wrap(start + m, n)
 }
 
 // Where piece j's row starts.

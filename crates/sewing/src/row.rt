@@ -1,6 +1,6 @@
 // A row's targets, by index.
 ghost use mathlib.Core.Path.{_≡_};
-ghost use Prim.Native.Nat.{_+_, _<_, _≤_, _^_};
+ghost use Prim.Native.Nat.{_+_, _<_, _^_};
 ghost use lib.IntN.{pos, _+ℤ_};
 ghost use lib.Signed.{mag};
 ghost use mir.Syntax.{w64};

@@ -1,10 +1,10 @@
 -- From the last piece back. Assumes nothing.
-use mathlib.Core.Path.{_≡_, refl, sym, ap, _∙_, subst}
+use mathlib.Core.Path.{_≡_, refl}
 use mathlib.Core.List.{List}
-use Prim.Native.Nat.{ℕ, _+_, _-_, _*_, _≤_, _<_}
+use Prim.Native.Nat.{ℕ, _+_, _-_, _≤_, _<_}
 use native.Mathlib.Omega.{arith}
-use lib.ListN.{length, length-set, getD}
-use Rattle.sewing.specs.Sewing.{numbersIn, Marked, Linking}
+use lib.ListN.{length-set}
+use Rattle.sewing.specs.Sewing.{numbersIn, Linking}
 use Rattle.sewing.proofs.Chains.{chain-start, mark-is, mark-below, chain-next}
 use borrow.Author.Needs.{needs}
 use Rattle.sewing.proofs.links.chain.Statement.{statement}

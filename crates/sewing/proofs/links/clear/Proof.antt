@@ -1,9 +1,9 @@
 -- One value, in a row of places. Assumes nothing.
-use mathlib.Core.Path.{_≡_, refl, sym, ap, _∙_}
-use mathlib.Core.List.{List, [], _∷_, _++_}
-use Prim.Native.Nat.{ℕ, _+_, _-_, _≤_, _<_}
+use mathlib.Core.Path.{_≡_}
+use mathlib.Core.List.{_++_}
+use Prim.Native.Nat.{_+_, _-_, _≤_}
 use native.Mathlib.Omega.{arith}
-use lib.ListN.{length, take, replicate, length-replicate}
+use lib.ListN.{take, replicate}
 use Rattle.seqs.specs.Front.{Front, front-from, front-at, front-push, next-rep, none-rep}
 use Rattle.seqs.specs.Wrote.{put-end}
 use borrow.Author.Needs.{needs}

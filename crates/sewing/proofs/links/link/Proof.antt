@@ -1,7 +1,4 @@
 -- The firsts cleared, then the pieces linked. Assumes nothing.
-use mathlib.Core.Path.{_≡_, refl, sym, ap, _∙_}
-use native.Mathlib.Omega.{arith}
-use lib.ListN.{length, length-replicate}
 use Rattle.sewing.proofs.Chains.{cleared, link-end}
 use borrow.Author.Needs.{needs}
 use Rattle.sewing.proofs.links.link.Statement.{statement}

@@ -1,9 +1,8 @@
 -- Stagger 0 counts as 1. Assumes nothing.
-use mathlib.Core.Path.{_≡_, refl}
+use mathlib.Core.Path.{refl}
 use native.Mathlib.Omega.{arith}
 use borrow.Author.Tests.{eq-eqb, ne-eqb}
 use Rattle.rules.specs.Fill.{cycle}
-use borrow.Author.Needs.{needs}
 use Rattle.sewing.proofs.piece.cycle_of.Statement.{statement}
 use Rattle.sewing.proofs.piece.cycle_of.Tie as tie
 

@@ -1,5 +1,5 @@
 -- What all rows share. Assumes nothing.
-use mathlib.Core.Path.{_≡_, refl, sym, ap, _∙_}
+use mathlib.Core.Path.{_≡_}
 use native.Mathlib.Omega.{arith}
 use lib.Ieee.{ofBits, round}
 use mir.Syntax.{w64}

@@ -1,9 +1,5 @@
 -- A piece's row. Assumes nothing.
-use mathlib.Core.Path.{_≡_, refl, sym, ap, _∙_}
-use native.Mathlib.Omega.{arith}
-use Rattle.rules.specs.Fill.{cycle, offset}
 use Rattle.sewing.specs.Sewing.{entryAt, rowOf}
-use Rattle.sewing.proofs.Signs.{rem-below}
 use Rattle.sewing.proofs.Walks.{offset-is, start-below}
 use borrow.Author.Needs.{needs}
 use Rattle.sewing.proofs.piece.row_at.Statement.{statement}

@@ -1,5 +1,4 @@
 -- Where a row starts. Assumes nothing.
-use mathlib.Core.Path.{_≡_, refl}
 use native.Mathlib.Omega.{arith}
 use borrow.Author.Tests.{eq-eqb, ne-eqb}
 use Rattle.sewing.specs.Sewing.{entryAt}

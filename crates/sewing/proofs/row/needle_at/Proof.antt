@@ -1,9 +1,5 @@
 -- One needle point. Assumes nothing.
-use mathlib.Core.Path.{_≡_, refl, sym, ap, _∙_}
-use native.Mathlib.Omega.{arith}
 use lib.IntN.{pos, _+ℤ_}
-use mir.Syntax.{w64}
-use mir.Val.{toZ, ofZ}
 use Rattle.sewing.proofs.Signs.{read, cast}
 use borrow.Author.Needs.{needs}
 use Rattle.sewing.proofs.row.needle_at.Statement.{statement}

@@ -1,8 +1,7 @@
 -- How many whole numbers lie between two, by their signs. Assumes nothing.
-use mathlib.Core.Path.{_≡_, refl, sym, ap, _∙_}
+use mathlib.Core.Path.{_≡_, sym}
 use Prim.Native.Nat.{_+_}
 use native.Mathlib.Omega.{arith}
-use lib.Signed.{mag}
 use Rattle.seqs.specs.Capped.{capped-in, capped-over}
 use Rattle.rules.specs.Fill.{howMany}
 use Rattle.sewing.specs.Sewing.{most}

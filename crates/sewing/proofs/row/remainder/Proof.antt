@@ -1,8 +1,6 @@
 -- The never-negative remainder, by the sign. Assumes nothing.
-use mathlib.Core.Path.{_≡_, refl, sym, ap, _∙_}
 use native.Mathlib.Omega.{arith}
 use native.Mathlib.Nat.{mod-lt}
-use lib.Signed.{mag}
 use Rattle.sewing.proofs.Signs.{read, rem-up, rem-down}
 use borrow.Author.Needs.{needs}
 use Rattle.sewing.proofs.row.remainder.Statement.{statement}

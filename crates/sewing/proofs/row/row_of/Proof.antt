@@ -1,7 +1,6 @@
 -- The row of a piece. Assumes nothing.
-use mathlib.Core.Path.{_≡_, refl, sym, ap, _∙_}
 use mir.Syntax.{w64}
-use mir.Val.{SFits, toZ, ofZ}
+use mir.Val.{SFits}
 use Rattle.sewing.specs.Sewing.{rowBy}
 use Rattle.sewing.proofs.Signs.{read, reach-near, signed-fits}
 use borrow.Author.Needs.{needs}

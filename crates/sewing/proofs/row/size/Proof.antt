@@ -1,13 +1,9 @@
 -- The size of a number, by its sign. Assumes nothing.
-use mathlib.Core.Path.{_≡_, refl, sym, ap, _∙_}
 use native.Mathlib.Omega.{arith}
 use lib.IntN.{pos}
 use lib.Signed.{mag}
-use mir.Syntax.{w64}
-use mir.Val.{toZ, ofZ}
 use mir.Facts.{fits-natAbs}
 use Rattle.sewing.proofs.Signs.{read, size-up, size-down, up-fits}
-use borrow.Author.Needs.{needs}
 use Rattle.sewing.proofs.row.size.Statement.{statement}
 use Rattle.sewing.proofs.row.size.Tie as tie
 

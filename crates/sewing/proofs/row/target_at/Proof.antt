@@ -1,8 +1,6 @@
 -- A target, by its index. Assumes nothing.
-use mathlib.Core.Path.{_≡_, refl, sym, ap, _∙_}
 use Prim.Native.Nat.{_-_}
 use native.Mathlib.Omega.{arith}
-use lib.IntN.{pos, _+ℤ_}
 use borrow.Author.Tests.{lt-ltb, le-ltb, eq-eqb, ne-eqb}
 use Rattle.sewing.specs.Sewing.{target}
 use Rattle.sewing.proofs.Signs.{read, first-fits}

@@ -1,9 +1,8 @@
 -- All sections, written. Assumes nothing.
-use mathlib.Core.Path.{_≡_, refl, sym, ap, _∙_}
-use mathlib.Core.List.{List, [], _∷_, _++_, map}
-use Prim.Native.Nat.{ℕ, _+_, _-_, _*_, _/_, _^_, _≤_, _<_}
+use mathlib.Core.Path.{sym, ap, _∙_}
+use mathlib.Core.List.{map}
+use Prim.Native.Nat.{_+_, _-_, _/_, _≤_}
 use native.Mathlib.Omega.{arith}
-use lib.ListN.{length, take}
 use Rattle.seqs.specs.Lists.{each}
 use Rattle.seqs.specs.Front.{Front, front-start, front-at, front-push, front-end, front-room-block, front-whole}
 use Rattle.rules.specs.Standin.{flat}

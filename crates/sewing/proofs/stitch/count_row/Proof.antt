@@ -1,12 +1,11 @@
 -- A row's points, counted. Assumes nothing.
 use mathlib.Core.Path.{_≡_, refl, sym, ap, _∙_}
-use mathlib.Core.List.{List, [], _∷_, _++_}
-use Prim.Native.Nat.{ℕ, _+_, _-_, _*_, _^_, _≤_, _<_}
+use Prim.Native.Nat.{_+_, _-_, _≤_}
 use native.Mathlib.Omega.{arith}
 use lib.ListN.{length}
 use Rattle.seqs.specs.Capped.{capped-in, capped-over}
 use Rattle.geom.specs.Point.{point}
-use Rattle.sewing.specs.Sewing.{sewTo, targets, target}
+use Rattle.sewing.specs.Sewing.{sewTo, targets}
 use Rattle.sewing.specs.SewLaws.{sew-least}
 use Rattle.sewing.specs.RowLaws.{targets-length}
 use Rattle.sewing.proofs.Loops.{row-count, row-done}

@@ -1,5 +1,4 @@
 -- The root decides. Assumes nothing.
-use mathlib.Core.Path.{_≡_, refl, sym, ap, _∙_}
 use native.Mathlib.Omega.{arith}
 use Rattle.sewing.specs.Sewing.{cutsFor}
 use borrow.Author.Needs.{needs}

@@ -1,5 +1,5 @@
 -- The limits decide, or the root. Assumes nothing.
-use mathlib.Core.Path.{_≡_, refl, sym, ap, _∙_, subst}
+use mathlib.Core.Path.{sym, subst}
 use lib.Dec.{T}
 use borrow.Author.Needs.{needs}
 use Rattle.sewing.proofs.stitch.cuts_for.Statement.{statement}

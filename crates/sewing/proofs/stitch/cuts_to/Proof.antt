@@ -1,5 +1,4 @@
 -- The squared length of the step. Assumes nothing.
-use mathlib.Core.Path.{_≡_, refl, sym, ap, _∙_, subst}
 use Rattle.sewing.specs.Sewing.{cuts}
 use borrow.Author.Needs.{needs}
 use Rattle.sewing.proofs.stitch.cuts_to.Statement.{statement}

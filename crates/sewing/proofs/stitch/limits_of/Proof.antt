@@ -1,5 +1,5 @@
 -- Three limits that were tried, or none. Assumes nothing.
-use mathlib.Core.Path.{_≡_, refl, sym, ap, _∙_}
+use mathlib.Core.Path.{sym, _∙_}
 use native.Mathlib.Omega.{arith}
 use lib.Ieee.{binary64, div, ofBits}
 use Rattle.leaves.specs.Laws.{mul-fits}

@@ -1,5 +1,4 @@
 -- The four tests. Assumes nothing.
-use mathlib.Core.Path.{_≡_, refl, sym, ap, _∙_}
 use lib.Ieee.{ofBits}
 use borrow.Author.Needs.{needs}
 use Rattle.sewing.proofs.stitch.measures.Statement.{statement}

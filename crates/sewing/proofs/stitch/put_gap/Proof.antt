@@ -1,9 +1,9 @@
 -- The points on the way, and the end. Assumes nothing.
-use mathlib.Core.Path.{_≡_, refl, sym, ap, _∙_}
-use mathlib.Core.List.{List, [], _∷_, _++_}
-use Prim.Native.Nat.{ℕ, _+_, _-_, _*_, _≤_, _<_}
+use mathlib.Core.Path.{_≡_, ap}
+use mathlib.Core.List.{_++_}
+use Prim.Native.Nat.{_+_, _-_, _*_, _≤_}
 use native.Mathlib.Omega.{arith}
-use lib.ListN.{length, take, length-set}
+use lib.ListN.{take, length-set}
 use Rattle.seqs.specs.Front.{Front, front-from, front-at, front-push2, front-end}
 use Rattle.rules.specs.Standin.{flat}
 use Rattle.sewing.specs.Sewing.{back, gap}
