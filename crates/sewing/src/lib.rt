@@ -3,11 +3,11 @@
 // The pieces' part of the floats holds y, xa, xb of piece i at 3 * i. Of n pieces the part of the whole numbers holds
 // the row of piece i at i, its section and its place there at n + 2 * i, and the links that `link` writes: the next piece
 // of its section (n where there is none) at 3 * n + i, the first piece of section s at 4 * n + s.
-pub mod links;
-pub mod piece;
-pub mod row;
-pub mod section;
-pub mod stitch;
+mod links;
+mod piece;
+mod row;
+mod section;
+mod stitch;
 
 pub use links::link;
 use rules::Settings;
