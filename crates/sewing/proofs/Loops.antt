@@ -10,7 +10,7 @@ use Rattle.numbers.specs.Num.{_⊘_, real}
 use Rattle.seqs.specs.Lists.{upto}
 use Rattle.geom.specs.declared.point.P.{P}
 use Rattle.geom.specs.Point.{point, rotate, lerp}
-use Rattle.rules.specs.Standin.{flat}
+use Rattle.geom.specs.Sewing.{flat}
 use Rattle.sewing.specs.declared.row.Row.{Row}
 use Rattle.sewing.specs.Sewing.{way, gap, cuts, sewTo, back, target, targets}
 use Rattle.sewing.specs.SewLaws.{gap-length, sew-next, sew-count, sew-none, sew-least, flat-back, flat-back-length}

@@ -20,7 +20,7 @@ use Rattle.geom.specs.declared.point.P.{P}
 use Rattle.geom.specs.Point.{point}
 use Rattle.rules.specs.declared.Settings.{Settings}
 use Rattle.rules.specs.declared.Entry.{Entry}
-use Rattle.rules.specs.Standin.{flat}
+use Rattle.geom.specs.Sewing.{flat}
 use Rattle.rules.specs.Fill.{cycle, remEuclid, offset, needles, rowPoints, section, sewn}
 use Rattle.rules.specs.Calls.{sewnEnds}
 use Rattle.sewing.specs.declared.Field.{Field}

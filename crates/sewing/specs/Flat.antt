@@ -5,7 +5,7 @@ use mathlib.Core.Path.{_≡_, refl, ap}
 use mathlib.Core.List.{List, [], _∷_, _++_}
 use lib.ListN.{length}
 use Rattle.geom.specs.declared.point.P.{P}
-use Rattle.rules.specs.Standin.{flat}
+use Rattle.geom.specs.Sewing.{flat}
 
 pub flat-length : (ps : List P) → length (flat ps) ≡ 2 * length ps
 unfolding flat

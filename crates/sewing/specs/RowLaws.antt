@@ -17,7 +17,7 @@ use Rattle.geom.specs.Point.{point}
 use Rattle.rules.specs.declared.Settings.{Settings}
 use Rattle.rules.specs.declared.Piece.{Piece}
 use Rattle.rules.specs.declared.Entry.{Entry}
-use Rattle.rules.specs.Fill.{howMany, offset, through, needles, rowPoints}
+use Rattle.rules.specs.Fill.{howMany, offset, through, needles, rowPoints, m0, m1, minEnd as fillEnd}
 use Rattle.sewing.specs.declared.row.Row.{Row}
 use Rattle.sewing.specs.Sewing.{most, forward, minEnd, lowest, highest, rowBy, rowOf, needle, target, targets}
 
@@ -89,11 +89,11 @@ module _ (len : Float) (w : Row) where
 
 -- the needle points by index
 pub needles-are : (g : Settings) (stagger : ℕ) (p : Piece) → needles g stagger p ≡ map (λ i. offset g stagger (p .k) ⊕ real (lowest (g .len) (minEnd (g .len)) (offset g stagger (p .k)) (p .xa) +ℤ pos i) ⊗ g .len) (upto 0 (howMany (lowest (g .len) (minEnd (g .len)) (offset g stagger (p .k)) (p .xa)) (highest (g .len) (minEnd (g .len)) (offset g stagger (p .k)) (p .xb))))
-unfolding needles through
+unfolding needles through m0 m1 fillEnd
 needles-are g stagger p =
     let off = offset g stagger (p .k) in
-    let m0 = lowest (g .len) (minEnd (g .len)) off (p .xa) in
-    map-map (λ m. off ⊕ real m ⊗ g .len) (λ i. m0 +ℤ pos i) (upto 0 (howMany m0 (highest (g .len) (minEnd (g .len)) off (p .xb))))
+    let from = lowest (g .len) (minEnd (g .len)) off (p .xa) in
+    map-map (λ m. off ⊕ real m ⊗ g .len) (λ i. from +ℤ pos i) (upto 0 (howMany from (highest (g .len) (minEnd (g .len)) off (p .xb))))
 
 pub needles-length : (g : Settings) (stagger : ℕ) (p : Piece) → length (needles g stagger p) ≡ howMany (lowest (g .len) (minEnd (g .len)) (offset g stagger (p .k)) (p .xa)) (highest (g .len) (minEnd (g .len)) (offset g stagger (p .k)) (p .xb))
 needles-length g stagger p = rw (needles-are g stagger p, length-map, upto-length)

@@ -25,8 +25,9 @@ use Rattle.geom.specs.Point.{point, rotate, lerp, len, dist}
 use Rattle.rules.specs.declared.Settings.{Settings}
 use Rattle.rules.specs.declared.Piece.{Piece}
 use Rattle.rules.specs.declared.Entry.{Entry}
-use Rattle.rules.specs.Standin.{flat}
-use Rattle.rules.specs.Fill.{needles, rowPoints, between, sewFrom, sew, sewn}
+use Rattle.geom.specs.Sewing.{flat}
+use Rattle.rules.specs.Fill.{needles, rowPoints, parts, between, sewFrom, sew, sewn}
+use Rattle.geom.specs.Steps.{along}
 use Rattle.sewing.specs.Sewing.{forward, startOf, endOf, cuts, way, gap, cutsFor, sewTo, back, sewnFrom}
 use Rattle.sewing.specs.RowLaws.{map-append}
 use Rattle.sewing.specs.Flat.{flat-length, flat-append}
@@ -41,7 +42,7 @@ pub gap-length : (p q : P) (n : ℕ) → length (gap p q n) ≡ n + 1
 gap-length p q n = length-append (way p q n) (q ∷ []) ∙ ap (λ k. k + 1) (way-length p q n)
 
 between-is : (g : Settings) (p q : P) → between g p q ≡ way p q (cuts (g .len) p q)
-unfolding between way cuts cutsFor dist len
+unfolding between parts along way cuts cutsFor dist len
 between-is g p q = go (toUnsigned 64 (ceil (dist p q ⊘ g .len)))
   where
     go : (n : ℕ) → map (λ i. lerp p q (real (pos i) ⊘ real (pos n))) (upto 1 (n - 1)) ≡ map (λ i. lerp p q (real (pos i) ⊘ real (pos (n - 1 + 1)))) (upto 1 (n - 1))

@@ -5,7 +5,7 @@ ghost use Prim.Native.Nat.{_+_, _*_, _<_, _≤_, _^_};
 ghost use lib.ListN.{length, drop};
 ghost use Rattle.seqs.specs.Lists.{each};
 ghost use Rattle.seqs.specs.Slices.{capped, Put};
-ghost use Rattle.rules.specs.Standin.{flat};
+ghost use Rattle.geom.specs.Sewing.{flat};
 ghost use Rattle.rules.specs.Fill.{section, sewn};
 ghost use Rattle.rules.specs.Calls.{sewnPoints, sewnEnds};
 ghost use Rattle.sewing.specs.Sewing.{entriesIn, firstSections, Linked, Ready};
@@ -107,8 +107,8 @@ pub fn write(
     f: Field,
     sections: usize,
 )
-    requires { ⌜ Linked f sections (now floats) (now wholes) × (length (sewnPoints (map (sewn (f .g) (f .stagger)) (firstSections (entriesIn f (now floats) (now wholes)) sections))) ≤ length (now out)) × (sections ≤ length (now ends)) ⌝ }
-    ensures { λ _. ⌜ (now (out .exit) ≡ sewnPoints (map (sewn (f .g) (f .stagger)) (firstSections (entriesIn f (now (floats .entry)) (now (wholes .entry))) sections)) ++ drop (length (sewnPoints (map (sewn (f .g) (f .stagger)) (firstSections (entriesIn f (now (floats .entry)) (now (wholes .entry))) sections)))) (now (out .entry))) × (now (ends .exit) ≡ sewnEnds 0 (map (sewn (f .g) (f .stagger)) (firstSections (entriesIn f (now (floats .entry)) (now (wholes .entry))) sections)) ++ drop (length (sewnEnds 0 (map (sewn (f .g) (f .stagger)) (firstSections (entriesIn f (now (floats .entry)) (now (wholes .entry))) sections)))) (now (ends .entry))) ⌝ }
+    requires { ⌜ Linked f sections (now floats) (now wholes) × (length (flat (sewnPoints (map (sewn (f .g) (f .stagger)) (firstSections (entriesIn f (now floats) (now wholes)) sections)))) ≤ length (now out)) × (sections ≤ length (now ends)) ⌝ }
+    ensures { λ _. ⌜ (now (out .exit) ≡ flat (sewnPoints (map (sewn (f .g) (f .stagger)) (firstSections (entriesIn f (now (floats .entry)) (now (wholes .entry))) sections))) ++ drop (length (flat (sewnPoints (map (sewn (f .g) (f .stagger)) (firstSections (entriesIn f (now (floats .entry)) (now (wholes .entry))) sections))))) (now (out .entry))) × (now (ends .exit) ≡ sewnEnds 0 (map (sewn (f .g) (f .stagger)) (firstSections (entriesIn f (now (floats .entry)) (now (wholes .entry))) sections)) ++ drop (length (sewnEnds 0 (map (sewn (f .g) (f .stagger)) (firstSections (entriesIn f (now (floats .entry)) (now (wholes .entry))) sections)))) (now (ends .entry))) ⌝ }
 {
     let t = ready(f);
     let mut at = 0;

@@ -8,7 +8,7 @@ ghost use Rattle.numbers.specs.Num.{zero64};
 ghost use Rattle.numbers.specs.Order.{finite};
 ghost use Rattle.seqs.specs.Slices.{capped, Put};
 ghost use Rattle.geom.specs.Point.{point};
-ghost use Rattle.rules.specs.Standin.{flat};
+ghost use Rattle.geom.specs.Sewing.{flat};
 ghost use Rattle.sewing.specs.Sewing.{cutsFor, cuts, Decides, gap, sewTo, back, Near, targets};
 use crate::row::Row;
 use crate::row::target_at;

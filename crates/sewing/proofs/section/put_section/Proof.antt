@@ -7,7 +7,7 @@ use lib.ListN.{length, take, getD}
 use Rattle.seqs.specs.Front.{Front, front-from, front-at, front-room-block, front-whole, front-count}
 use Rattle.seqs.specs.Wrote.{head-length, put-end}
 use Rattle.geom.specs.Point.{point}
-use Rattle.rules.specs.Standin.{flat}
+use Rattle.geom.specs.Sewing.{flat}
 use Rattle.rules.specs.Fill.{sewn, section}
 use Rattle.sewing.specs.Sewing.{entriesIn, numbersIn, sewTo, back, targets}
 use Rattle.sewing.specs.Flat.{flat-none}

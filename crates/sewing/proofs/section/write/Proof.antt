@@ -5,7 +5,7 @@ use Prim.Native.Nat.{_+_, _-_, _/_, _≤_}
 use native.Mathlib.Omega.{arith}
 use Rattle.seqs.specs.Lists.{each}
 use Rattle.seqs.specs.Front.{Front, front-start, front-at, front-push, front-end, front-room-block, front-whole}
-use Rattle.rules.specs.Standin.{flat}
+use Rattle.geom.specs.Sewing.{flat}
 use Rattle.rules.specs.Fill.{sewn, section}
 use Rattle.rules.specs.Calls.{sewnPoints, sewnEnds}
 use Rattle.sewing.specs.Sewing.{entriesIn, firstSections}

@@ -5,7 +5,7 @@ use Prim.Native.Nat.{_+_, _-_, _*_, _≤_}
 use native.Mathlib.Omega.{arith}
 use lib.ListN.{take, length-set}
 use Rattle.seqs.specs.Front.{Front, front-from, front-at, front-push2, front-end}
-use Rattle.rules.specs.Standin.{flat}
+use Rattle.geom.specs.Sewing.{flat}
 use Rattle.sewing.specs.Sewing.{back, gap}
 use Rattle.sewing.proofs.Loops.{gapFrom, gap-all, gap-size, gap-next, gap-last}
 use borrow.Author.Needs.{needs}

@@ -7,7 +7,7 @@ use lib.ListN.{length, take}
 use Rattle.seqs.specs.Front.{Front, front-from, front-at, front-room-block, front-whole}
 use Rattle.seqs.specs.Wrote.{head-length, put-end}
 use Rattle.geom.specs.Point.{point}
-use Rattle.rules.specs.Standin.{flat}
+use Rattle.geom.specs.Sewing.{flat}
 use Rattle.sewing.specs.Sewing.{gap, cuts, sewTo, back, targets, target}
 use Rattle.sewing.specs.SewLaws.{flat-back-none}
 use Rattle.sewing.proofs.Loops.{row-next, row-done, row-fits}
