@@ -5,6 +5,8 @@
 #[cfg(feature = "geom")]
 pub mod geom;
 pub mod leaves;
+#[cfg(feature = "geom")]
+mod records;
 #[cfg(feature = "stroke")]
 pub mod stroke;
 
@@ -421,13 +423,13 @@ pub fn groups() -> Vec<Group> {
         Group {
             name: "geom",
             functions: geom::functions(),
-            replay: None,
+            replay: Some(geom::replay),
         },
         #[cfg(feature = "stroke")]
         Group {
             name: "stroke",
             functions: stroke::functions(),
-            replay: None,
+            replay: Some(stroke::replay),
         },
     ]
 }
