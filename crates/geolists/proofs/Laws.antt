@@ -9,7 +9,7 @@ use native.Mathlib.Omega.{arith}
 use lib.Dec.{eqb}
 use lib.ListN.{length, drop, getD, drop-of-length-le}
 use lib.Seq.{drop-cons, drop-length}
-use lib.Ieee.{Float, binary64, ofBits, toBits}
+use lib.Ieee.{Float, nan, binary64, ofBits, toBits}
 use borrow.Author.Tests.{ne-eqb}
 use Rattle.seqs.specs.Front.{Front, front-start, front-at, front-end}
 use Rattle.geolists.specs.Words.{wordIn, isWord, orZero, wordsFrom, allFrom, floats, bits, same, verdict}
@@ -111,3 +111,22 @@ same-next v vs w i h = rw (add-one, drop-cons w i 0 h)
 pub same-end : (w : List ℕ) (i : ℕ) → length w ≤ i → same [] (drop i w) ≡ true
 unfolding same
 same-end w i h = rw (drop-of-length-le w h)
+
+-- ---- floats compared with words
+pub bits-next : (l : List Float) (w : List ℕ) (i : ℕ) → i < length l → i < length w → same (bits (drop i l)) (drop i w) ≡ (eqb (getD w i 0) (toBits binary64 (getD l i nan)) && same (bits (drop (i + 1) l)) (drop (i + 1) w))
+unfolding same bits
+bits-next l w i h k = rw (add-one, drop-cons l i nan h, drop-cons w i 0 k)
+
+pub bits-end : (l : List Float) (w : List ℕ) (i : ℕ) → length l ≤ i → length w ≤ i → same (bits (drop i l)) (drop i w) ≡ true
+unfolding same bits
+bits-end l w i h k = rw (drop-of-length-le l h, drop-of-length-le w k)
+
+-- ---- verdicts
+pub verdict-le : (a w : List ℕ) → verdict a w ≤ 2
+unfolding verdict
+verdict-le [] w = omega arith
+verdict-le (v ∷ vs) w = go (same (v ∷ vs) w)
+  where
+    go : (t : Bool) → cond t 0 1 ≤ 2
+    go true = omega arith
+    go false = omega arith

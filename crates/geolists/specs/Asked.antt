@@ -69,16 +69,20 @@ unfoldable pub insideWords : ℕ → List Float → List ℕ → ℕ → List Fl
 insideWords f corners ends rule l =
     cond (eqb f 9) (windingWords corners ends l) (cond (eqb f 10) (pointWords corners ends rule l) (cond (eqb f 11) (segmentWords corners ends rule l) []))
 
--- n, m, n coordinates, m ring ends, and what stands after them
-abbrev pub outlineCut : ℕ → ℕ → ℕ → List ℕ → List Float → List ℕ
-outlineCut f n m w l =
-    insideWords f (take n (drop 2 l)) (take m (drop (n + 2) w)) (getD w (n + 2 + m) 0) (take (length l - (n + 2 + m)) (drop (n + 2 + m) l))
+-- the part of a list from one place to another
+abbrev pub part : {A : Type 0} → ℕ → ℕ → List A → List A
+part from to l = take (to - from) (drop from l)
 
+-- coordinates up to a, ring ends up to b, and what stands after them
+abbrev pub outlineCut : ℕ → ℕ → ℕ → List ℕ → List Float → List ℕ
+outlineCut f a b w l = insideWords f (part 2 a l) (part a b w) (getD w b 0) (part b (length l) l)
+
+-- n, m, n coordinates, m ring ends, and at least a word after them
 unfoldable pub outlineWords : ℕ → List ℕ → List Float → List ℕ
 unfolding insideWords
 outlineWords f w l =
     cond (leb 3 (length w) && eqb (length l) (length w))
-    (cond (leb (length w - 2) (getD w 0 0)) [] (cond (leb (length w - (getD w 0 0 + 2)) (getD w 1 0)) [] (outlineCut f (getD w 0 0) (getD w 1 0) w l)))
+    (cond (leb (length w - 2) (getD w 0 0)) [] (cond (leb (length w - (getD w 0 0 + 2)) (getD w 1 0)) [] (outlineCut f (getD w 0 0 + 2) (getD w 0 0 + 2 + getD w 1 0) w l)))
     []
 
 -- ---- a record's call: functions 1 to 12

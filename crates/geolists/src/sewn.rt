@@ -28,14 +28,17 @@ fn same_bits(l: &[f64], want: &[usize]) -> bool
 fn compare(s: Sewn, out: &[f64], want: &[usize]) -> u64
     ensures { λ r. ⌜ r ≤ 2 ⌝ }
 {
-    if s.points > (out.len() / 2) as u64 {
-        return 1;
-    }
-    let n = 2 * (s.points as usize);
     if want.len() < 2 {
         return 1;
     }
-    if want.len() - 2 != n {
+    let n = want.len() - 2;
+    if n > out.len() {
+        return 1;
+    }
+    if n % 2 != 0 {
+        return 1;
+    }
+    if (n / 2) as u64 != s.points {
         return 1;
     }
     if want[0] as u64 != s.answer {
@@ -50,26 +53,17 @@ fn compare(s: Sewn, out: &[f64], want: &[usize]) -> u64
     1
 }
 
-// w are the words of a call, and l the same as floats: the room, len, and the line.
-pub fn resampled(w: &[usize], l: &[f64], want: &[usize]) -> u64
+fn resample_into(l: &[f64], out: &mut [f64], want: &[usize]) -> u64
     ensures { λ r. ⌜ r ≤ 2 ⌝ }
 {
     if l.len() < 2 {
         return 2;
     }
-    if w.len() < 1 {
-        return 2;
-    }
-    if w[0] > ROOM {
-        return 2;
-    }
-    let mut out = [0.0f64; ROOM];
-    let s = geom::checked_line::resample_keep_corners(&l[2..], l[1], &mut out[..w[0]]);
-    compare(s, &out[..w[0]], want)
+    let s = geom::checked_line::resample_keep_corners(&l[2..], l[1], out);
+    compare(s, out, want)
 }
 
-// The room, closed, len, passes, and the line.
-pub fn ran(w: &[usize], l: &[f64], want: &[usize]) -> u64
+fn run_into(w: &[usize], l: &[f64], out: &mut [f64], want: &[usize]) -> u64
     ensures { λ r. ⌜ r ≤ 2 ⌝ }
 {
     if l.len() < 4 {
@@ -78,10 +72,36 @@ pub fn ran(w: &[usize], l: &[f64], want: &[usize]) -> u64
     if w.len() < 4 {
         return 2;
     }
-    if w[0] > ROOM {
+    let s = stroke::running(&l[4..], w[1] != 0, l[2], w[3] as u64, out);
+    compare(s, out, want)
+}
+
+// w are the words of a call, and l the same as floats: the room, len, and the line.
+pub fn resampled(w: &[usize], l: &[f64], want: &[usize]) -> u64
+    ensures { λ r. ⌜ r ≤ 2 ⌝ }
+{
+    if w.len() < 1 {
+        return 2;
+    }
+    let room = w[0];
+    if room > ROOM {
         return 2;
     }
     let mut out = [0.0f64; ROOM];
-    let s = stroke::running(&l[4..], w[1] != 0, l[2], w[3] as u64, &mut out[..w[0]]);
-    compare(s, &out[..w[0]], want)
+    resample_into(l, &mut out[..room], want)
+}
+
+// The room, closed, len, passes, and the line.
+pub fn ran(w: &[usize], l: &[f64], want: &[usize]) -> u64
+    ensures { λ r. ⌜ r ≤ 2 ⌝ }
+{
+    if w.len() < 1 {
+        return 2;
+    }
+    let room = w[0];
+    if room > ROOM {
+        return 2;
+    }
+    let mut out = [0.0f64; ROOM];
+    run_into(w, l, &mut out[..room], want)
 }

@@ -1,3 +1,5 @@
+use borrow.Author.Tests.{eq-eqb, ne-eqb, lt-leb, le-leb}
+use Rattle.geolists.specs.Asked.{outlineWords}
 use borrow.Author.Needs.{needs}
 use Rattle.geolists.proofs.outline.outline.Statement.{statement}
 use Rattle.geolists.proofs.outline.outline.Tie as tie
@@ -7,11 +9,13 @@ use Rattle.geolists.proofs.outline.inside.Reads as inside-reads
 
 -- src/outline.rt:66:9
 returns : tie.Need-returns
-returns c = ?
+unfolding outlineWords
+returns c = rw (lt-leb 3 _ (c .if1 .taken))
 
 -- src/outline.rt:69:9
 returns-2 : tie.Need-returns-2
-returns-2 c = ?
+unfolding outlineWords
+returns-2 c = rw (le-leb 3 _ (c .before .if1 .left), ne-eqb _ _ (c .if2 .taken))
 
 -- src/outline.rt:71:8
 shared-slice-read-if3 : tie.Need-shared-slice-read-if3
@@ -23,7 +27,8 @@ sub-if3 c = search needs
 
 -- src/outline.rt:72:9
 returns-3 : tie.Need-returns-3
-returns-3 c = ?
+unfolding outlineWords
+returns-3 c = rw (le-leb 3 _ (c .before .before .before .if1 .left), eq-eqb _ _ (c .before .before .if2 .left), le-leb _ _ (c .if3 .taken))
 
 -- src/outline.rt:74:13
 shared-slice-read-a : tie.Need-shared-slice-read-a
@@ -43,7 +48,8 @@ sub-if4 c = search needs
 
 -- src/outline.rt:76:9
 returns-4 : tie.Need-returns-4
-returns-4 c = ?
+unfolding outlineWords
+returns-4 c = rw (le-leb 3 _ (c .before .before .before .before .before .before .if1 .left), eq-eqb _ _ (c .before .before .before .before .before .if2 .left), lt-leb _ _ (c .before .before .before .if3 .left), le-leb _ _ (c .if4 .taken))
 
 -- src/outline.rt:78:17
 shared-slice-read-b : tie.Need-shared-slice-read-b
@@ -111,7 +117,8 @@ inside-requires c κs = search needs
 
 -- src/outline.rt:62:1
 returns-5 : tie.Need-returns-5
-returns-5 c = ?
+unfolding outlineWords
+returns-5 c = rw (c .inside .ensures, le-leb 3 _ (c .before .before .before .before .before .before .before .before .before .before .before .before .if1 .left), eq-eqb _ _ (c .before .before .before .before .before .before .before .before .before .before .before .if2 .left), lt-leb _ _ (c .before .before .before .before .before .before .before .before .before .if3 .left), lt-leb _ _ (c .before .before .before .before .before .before .if4 .left))
 
 pub outline-spec : {M : Type 1} → statement M
 outline-spec =

@@ -1,3 +1,5 @@
+use borrow.Author.Tests.{eq-eqb, ne-eqb, lt-leb, le-leb}
+use Rattle.geolists.specs.Asked.{pointWords}
 use borrow.Author.Needs.{needs}
 use Rattle.geolists.proofs.outline.point.Statement.{statement}
 use Rattle.geolists.proofs.outline.point.Tie as tie
@@ -9,7 +11,8 @@ use Rattle.geom.proofs.checked.point_inside.Reads as point-inside-reads
 
 -- src/outline.rt:34:9
 returns : tie.Need-returns
-returns c = ?
+unfolding pointWords
+returns c = rw (ne-eqb _ 3 (c .if1 .taken))
 
 -- src/outline.rt:36:51
 rule-of-requires : tie.Need-rule-of-requires
@@ -33,7 +36,8 @@ of-truth-requires c κs = search needs
 
 -- src/outline.rt:30:1
 returns-2 : tie.Need-returns-2
-returns-2 c = ?
+unfolding pointWords
+returns-2 c = rw (c .of-truth .ensures, c .before .point-inside .ensures, c .before .before .before .before .rule-of .ensures, eq-eqb _ 3 (c .before .before .before .before .before .if1 .left))
 
 pub point-spec : {M : Type 1} → statement M
 point-spec =

@@ -1,3 +1,5 @@
+use borrow.Author.Tests.{eq-eqb, ne-eqb, lt-leb, le-leb}
+use Rattle.geolists.specs.Asked.{segmentWords}
 use borrow.Author.Needs.{needs}
 use Rattle.geolists.proofs.outline.segment.Statement.{statement}
 use Rattle.geolists.proofs.outline.segment.Tie as tie
@@ -9,7 +11,8 @@ use Rattle.geom.proofs.checked.segment_inside.Reads as segment-inside-reads
 
 -- src/outline.rt:43:9
 returns : tie.Need-returns
-returns c = ?
+unfolding segmentWords
+returns c = rw (ne-eqb _ 6 (c .if1 .taken))
 
 -- src/outline.rt:45:20
 shared-slice-read-segment-inside : tie.Need-shared-slice-read-segment-inside
@@ -45,7 +48,8 @@ of-truth-requires c κs = search needs
 
 -- src/outline.rt:39:1
 returns-2 : tie.Need-returns-2
-returns-2 c = ?
+unfolding segmentWords
+returns-2 c = rw (c .of-truth .ensures, c .before .segment-inside .ensures, c .before .before .before .rule-of .ensures, eq-eqb _ 6 (c .before .before .before .before .before .before .before .before .if1 .left))
 
 pub segment-spec : {M : Type 1} → statement M
 segment-spec =

@@ -1,3 +1,5 @@
+use borrow.Author.Tests.{eq-eqb, ne-eqb, lt-leb, le-leb}
+use Rattle.geolists.specs.Asked.{windingWords}
 use borrow.Author.Needs.{needs}
 use Rattle.geolists.proofs.outline.winding.Statement.{statement}
 use Rattle.geolists.proofs.outline.winding.Tie as tie
@@ -8,7 +10,8 @@ use Rattle.geom.proofs.checked.winding.Reads as winding-reads
 
 -- src/outline.rt:25:9
 returns : tie.Need-returns
-returns c = ?
+unfolding windingWords
+returns c = rw (ne-eqb _ 2 (c .if1 .taken))
 
 -- src/outline.rt:27:53
 shared-slice-read-t8 : tie.Need-shared-slice-read-t8
@@ -28,7 +31,8 @@ of-wound-requires c κs = search needs
 
 -- src/outline.rt:21:1
 returns-2 : tie.Need-returns-2
-returns-2 c = ?
+unfolding windingWords
+returns-2 c = rw (c .of-wound .ensures, c .before .winding .ensures, eq-eqb _ 2 (c .before .before .before .before .if1 .left))
 
 pub winding-spec : {M : Type 1} → statement M
 winding-spec =
