@@ -1,3 +1,4 @@
+use Rattle.geolists.proofs.Laws.{verdict-le}
 use borrow.Author.Needs.{needs}
 use Rattle.geolists.proofs.record.judge.Statement.{statement}
 use Rattle.geolists.proofs.record.judge.Tie as tie
@@ -13,7 +14,7 @@ judge-value-requires c κs = search needs
 
 -- src/record.rt:26:9
 returns : tie.Need-returns
-returns c = ?
+returns c = (rw (c .judge-value .ensures) (verdict-le _ _), λ h. c .judge-value .ensures)
 
 -- src/record.rt:29:9
 resampled-requires : tie.Need-resampled-requires

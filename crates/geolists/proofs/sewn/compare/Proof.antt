@@ -1,3 +1,8 @@
+use mathlib.Core.Path.{sym, _∙_}
+use Prim.Native.Nat.{_-_}
+use native.Mathlib.Omega.{arith}
+use lib.ListN.{length, drop, length-drop}
+use lib.Seq.{length-take-le}
 use borrow.Author.Needs.{needs}
 use Rattle.geolists.proofs.sewn.compare.Statement.{statement}
 use Rattle.geolists.proofs.sewn.compare.Tie as tie
@@ -43,7 +48,7 @@ returns-6 c = search needs
 
 -- src/sewn.rt:50:18
 slice-aggregate-same-bits : tie.Need-slice-aggregate-same-bits
-slice-aggregate-same-bits c = ?
+slice-aggregate-same-bits c = sym (length-take-le _ _ (c .before .before .before .before .before .before .before .before .before .before .if2 .left))
 
 -- src/sewn.rt:50:29
 sub-same-bits : tie.Need-sub-same-bits
@@ -59,7 +64,9 @@ part-same-bits-end c = search needs
 
 -- src/sewn.rt:50:8
 same-bits-requires : tie.Need-same-bits-requires
-same-bits-requires c κs = ?
+same-bits-requires c κs = 
+    let a = c .before .before .before .before .before .before .before .before .before .before .before .before .before .before .before .args in
+    length-take-le (length (a .want .now) - 2) (a .out .now) (c .before .before .before .before .before .before .before .before .before .before .before .if2 .left) ∙ sym (length-take-le (length (a .want .now) - 2) (drop 2 (a .want .now)) (omega (arith, length-drop 2 (a .want .now))))
 
 -- src/sewn.rt:51:9
 returns-7 : tie.Need-returns-7

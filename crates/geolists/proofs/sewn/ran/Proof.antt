@@ -1,3 +1,8 @@
+use mathlib.Core.Path.{sym, _∙_}
+use Prim.Native.Nat.{_-_}
+use native.Mathlib.Omega.{arith}
+use lib.ListN.{length, drop, length-drop}
+use lib.Seq.{length-take-le}
 use borrow.Author.Needs.{needs}
 use Rattle.geolists.proofs.sewn.ran.Statement.{statement}
 use Rattle.geolists.proofs.sewn.ran.Tie as tie
@@ -23,7 +28,7 @@ array-borrow-prefix-out c = search needs
 
 -- src/sewn.rt:106:20
 slice-aggregate-run-into : tie.Need-slice-aggregate-run-into
-slice-aggregate-run-into c = ?
+slice-aggregate-run-into c = sym (length-take-le _ _ (c .before .if2 .left))
 
 -- src/sewn.rt:106:5
 run-into-requires : tie.Need-run-into-requires

@@ -1,3 +1,8 @@
+use mathlib.Core.Path.{sym, _∙_}
+use Prim.Native.Nat.{_-_}
+use native.Mathlib.Omega.{arith}
+use lib.ListN.{length, drop, length-drop}
+use lib.Seq.{length-take-le}
 use borrow.Author.Needs.{needs}
 use Rattle.geolists.proofs.sewn.resampled.Statement.{statement}
 use Rattle.geolists.proofs.sewn.resampled.Tie as tie
@@ -23,7 +28,7 @@ array-borrow-prefix-out c = search needs
 
 -- src/sewn.rt:91:22
 slice-aggregate-resample-into : tie.Need-slice-aggregate-resample-into
-slice-aggregate-resample-into c = ?
+slice-aggregate-resample-into c = sym (length-take-le _ _ (c .before .if2 .left))
 
 -- src/sewn.rt:91:5
 resample-into-requires : tie.Need-resample-into-requires
