@@ -12,7 +12,6 @@
 // The last two answer a number, how many points, and the points.
 // The contracts of functions 1 to 12 say exactly when a record agrees; those of 13 and 14 say only that the verdict is 0, 1 or 2.
 pub mod answer;
-
 pub mod outline;
 pub mod record;
 pub mod said;

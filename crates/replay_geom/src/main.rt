@@ -5,57 +5,93 @@ use libc::STDOUT_FILENO;
 
 // The most words of a part of a record, and the bytes of a word.
 const WORDS: usize = 512;
+
 const BYTES: usize = 17;
 
-// Reads so many words. False where the input ends before, or one of them is no word.
-fn read_part(words: &mut [usize]) -> bool {
-    let mut text = [0u8; WORDS * BYTES];
-    if words.len() > WORDS {
-        return false;
-    }
-    let want = words.len() * BYTES;
-    let n = io::read_full(STDIN_FILENO, &mut text[..want]);
-    if n != want {
-        return false;
-    }
-    lists_words(&text[..want], words)
-}
-
-fn lists_words(text: &[u8], words: &mut [usize]) -> bool {
+fn words_of(text: &[u8], words: &mut [usize]) -> bool {
     if words.len() > text.len() / BYTES {
         return false;
     }
     geolists::read_words(text, words)
 }
 
-// The verdict on a record whose operands and answer have so many words; 3 where it can't be read.
+// Fills `text` and `words` from the input. False where it ends before, or has no word.
+fn fill(text: &mut [u8], words: &mut [usize]) -> bool {
+    let n = io::read_full(STDIN_FILENO, text);
+    if n < text.len() {
+        return false;
+    }
+    words_of(text, words)
+}
+
+// Reads n words.
+fn read_part(n: usize, words: &mut [usize]) -> bool {
+    let mut i = 0;
+    while i < n {
+        if i >= words.len() {
+            return false;
+        }
+        let mut text = [0u8; BYTES];
+        let mut one = [0usize; 1];
+        if !fill(&mut text, &mut one) {
+            return false;
+        }
+        words[i] = one[0];
+        i += 1;
+    }
+    true
+}
+
+fn judge_words(f: u64, words: &[usize], floats: &mut [f64], want: &[usize]) -> u64 {
+    if words.len() > floats.len() {
+        return 3;
+    }
+    geolists::floats_of(words, floats);
+    if words.len() > floats.len() {
+        return 3;
+    }
+    geolists::judge(f, words, &floats[..words.len()], want)
+}
+
+fn judge_parts(
+    f: u64,
+    given: usize,
+    words: &[usize],
+    owed: usize,
+    want: &[usize],
+    floats: &mut [f64],
+) -> u64 {
+    if owed > want.len() {
+        return 3;
+    }
+    if given > words.len() {
+        return 3;
+    }
+    judge_words(f, &words[..given], floats, &want[..owed])
+}
+
+// The verdict on a record with so many operands; 3 where it can't be read.
 fn judge_record(f: u64, given: usize) -> u64 {
     let mut words = [0usize; WORDS];
     let mut floats = [0.0f64; WORDS];
     let mut want = [0usize; WORDS];
     let mut count = [0usize; 1];
-    if given > WORDS {
+    if !read_part(given, &mut words) {
         return 3;
     }
-    if !read_part(&mut words[..given]) {
-        return 3;
-    }
-    geolists::floats_of(&words[..given], &mut floats);
-    if !read_part(&mut count) {
+    if !read_part(1, &mut count) {
         return 3;
     }
     let owed = count[0];
-    if owed > WORDS {
+    if !read_part(owed, &mut want) {
         return 3;
     }
-    if !read_part(&mut want[..owed]) {
-        return 3;
-    }
-    geolists::judge(f, &words[..given], &floats[..given], &want[..owed])
+    judge_parts(f, given, &words, owed, &want, &mut floats)
 }
 
-// One more at a place, if it is there.
+// One more at a function's place, and at 0, where all are counted: no function has that number.
 fn count(list: &mut [u64; 15], at: usize) {
+    list[0] = lists::plus(list[0], 1);
     if at < 15 {
         list[at] = lists::plus(list[at], 1);
     }
@@ -73,7 +109,7 @@ fn replay_one(agreed: &mut [u64; 15], differed: &mut [u64; 15], bad: &mut u64) -
         *bad = lists::plus(*bad, 1);
         return false;
     }
-    if !lists_words(&text, &mut head) {
+    if !words_of(&text, &mut head) {
         *bad = lists::plus(*bad, 1);
         return false;
     }
@@ -116,17 +152,6 @@ fn say_function(name: &[u8], agreed: u64, differed: u64) {
     say(b" different\n");
 }
 
-// All of a list.
-fn total(list: &[u64; 15]) -> u64 {
-    let mut sum = 0;
-    let mut i = 0;
-    while i < 15 {
-        sum = lists::plus(sum, list[i]);
-        i += 1;
-    }
-    sum
-}
-
 fn say_functions(agreed: &[u64; 15], differed: &[u64; 15]) {
     say_function(b"1 dot ", agreed[1], differed[1]);
     say_function(b"2 len ", agreed[2], differed[2]);
@@ -150,11 +175,10 @@ fn main() {
     let mut bad: u64 = 0;
     replay_all(&mut agreed, &mut differed, &mut bad);
     say_functions(&agreed, &differed);
-    let d = total(&differed);
     say(b"replay_geom: ");
-    say_number(lists::plus(lists::plus(total(&agreed), d), bad));
+    say_number(lists::plus(lists::plus(agreed[0], differed[0]), bad));
     say(b" records, ");
-    say_number(d);
+    say_number(differed[0]);
     say(b" different, ");
     say_number(bad);
     say(b" bad\n");

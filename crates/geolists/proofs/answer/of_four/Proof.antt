@@ -67,7 +67,7 @@ returns-4 c = rw (c .of-spot .ensures, c .before .rotate .ensures, c .before .be
 -- src/answer.rt:22:1
 returns-5 : tie.Need-returns-5
 unfolding fourWords
-returns-5 c = 
+returns-5 c =
     let r = c .match .rest in
     rw (ne-eqb _ 1 (r .0 .0 .0 .1), ne-eqb _ 3 (r .0 .0 .1), ne-eqb _ 4 (r .0 .1), ne-eqb _ 7 (r .1))
 

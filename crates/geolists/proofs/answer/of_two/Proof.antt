@@ -53,7 +53,7 @@ returns-3 c = rw (c .of-spot2 .ensures, c .before .perp .ensures, c .before .bef
 -- src/answer.rt:11:1
 returns-4 : tie.Need-returns-4
 unfolding twoWords
-returns-4 c = 
+returns-4 c =
     let r = c .match .rest in
     rw (ne-eqb _ 2 (r .0 .0 .1), ne-eqb _ 5 (r .0 .1), ne-eqb _ 6 (r .1))
 

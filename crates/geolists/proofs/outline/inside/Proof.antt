@@ -39,7 +39,7 @@ returns-3 c = rw (c .segment .ensures, c .before .match .keys3)
 -- src/outline.rt:50:1
 returns-4 : tie.Need-returns-4
 unfolding insideWords
-returns-4 c = 
+returns-4 c =
     let r = c .match .rest in
     rw (ne-eqb _ 9 (r .0 .0 .1), ne-eqb _ 10 (r .0 .1), ne-eqb _ 11 (r .1))
 

@@ -64,7 +64,7 @@ part-same-bits-end c = search needs
 
 -- src/sewn.rt:50:8
 same-bits-requires : tie.Need-same-bits-requires
-same-bits-requires c κs = 
+same-bits-requires c κs =
     let a = c .before .before .before .before .before .before .before .before .before .before .before .before .before .before .before .args in
     length-take-le (length (a .want .now) - 2) (a .out .now) (c .before .before .before .before .before .before .before .before .before .before .before .if2 .left) ∙ sym (length-take-le (length (a .want .now) - 2) (drop 2 (a .want .now)) (omega (arith, length-drop 2 (a .want .now))))
 

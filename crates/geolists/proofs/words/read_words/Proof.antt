@@ -65,13 +65,15 @@ loop-less c = search needs
 
 -- src/words.rt:62:5
 loop-again : tie.Need-loop-again Inv-loop μ-loop
-loop-again c = 
+loop-again c =
     let l = c .before .before .before .before .before .loop in
     let a = c .before .before .before .before .before .before .before .before .args in
-    let e = c .before .before .before .word-in .ensures in
-    (search needs, omega (arith, l .inv .1),
+    let e = c .before .before .before .word-in .ensures in (
+      search needs,
+      omega (arith, l .inv .1),
       all-turn (l .ok) _ (length (a .words .now)) (l .i) (l .at) (a .text .now) (search needs) (rw e at (rw (c .before .is-word .ensures) at (c .both .ensures))) ∙ l .inv .2,
-      front-push (front-at (rw (sym (rw e at (c .before .before .or-zero .ensures))) at (words-step (length (a .words .now)) (l .i) (l .at) (a .text .now) (search needs))) (l .inv .3)) (search needs))
+      front-push (front-at (rw (sym (rw e at (c .before .before .or-zero .ensures))) at (words-step (length (a .words .now)) (l .i) (l .at) (a .text .now) (search needs))) (l .inv .3)) (search needs),
+    )
 
 -- src/words.rt:55:1
 same-length : tie.Need-same-length Inv-loop μ-loop
@@ -79,7 +81,7 @@ same-length c = c .before .loop .inv .3 .len
 
 -- src/words.rt:55:1
 returns : tie.Need-returns Inv-loop μ-loop
-returns c = 
+returns c =
     let l = c .before .loop in
     let a = c .before .before .before .before .args in
     (sym (all-none (l .ok) (length (a .words .now)) (l .i) (l .at) (a .text .now) (search needs)) ∙ l .inv .2, filled (l .at) (a .text .now) (search needs) (l .inv .3))
