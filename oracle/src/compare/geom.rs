@@ -1,5 +1,6 @@
 //! The geometry: points, outlines, lines.
 
+use super::records::{self, Records, bits};
 use super::{Answered, Function, Operands, Tie, UNTOUCHED, Written, list, no_tie, simplicity};
 use crate::expect::{self, DONE, LAYOUT, LEN, NUMBER, ROOM, SETTING, STEP, TURN};
 use crate::inputs::{
@@ -490,25 +491,28 @@ pub fn lent(call: impl Fn(&Line, &mut [f64], &mut u64) -> u64) -> impl Fn(&Line)
     move |line| call(line, &mut out.borrow_mut(), &mut 0)
 }
 
+fn make_cut(rng: &mut Rng) -> Cut {
+    let len = setting(rng, LEN);
+    let line = lines::any(rng, len);
+    let room = lines::room(rng, expect::resample_points(&points(&line), len));
+    Cut { line, len, room }
+}
+
+fn resample_owed(c: &Cut) -> Written {
+    let pts = points(&c.line);
+    written(
+        expect::first(&c.checks()),
+        || expect::resample_points(&pts, c.len),
+        c.room,
+        || resample_keep_corners(&pts, c.len),
+    )
+}
+
 fn resample() -> Function {
-    let make = |rng: &mut Rng, _| {
-        let len = setting(rng, LEN);
-        let line = lines::any(rng, len);
-        let room = lines::room(rng, expect::resample_points(&points(&line), len));
-        Cut { line, len, room }
-    };
     Function::new(
         "resample_keep_corners",
-        make,
-        |c| {
-            let pts = points(&c.line);
-            written(
-                expect::first(&c.checks()),
-                || expect::resample_points(&pts, c.len),
-                c.room,
-                || resample_keep_corners(&pts, c.len),
-            )
-        },
+        |rng, _| make_cut(rng),
+        resample_owed,
         |c| {
             gave(c.room, |out, count| {
                 ours::resample_keep_corners(&c.line, c.len, out, count)
@@ -521,4 +525,199 @@ fn resample() -> Function {
         |(_, pts)| resample_keep_corners(pts, 25.0),
         lent(|(line, _), out, count| ours::resample_keep_corners(line, 25.0, out, count)),
     )
+}
+
+/// The replay list: functions 1 to 13 of README.md's table.
+pub fn replay() -> String {
+    let mut list = Records::default();
+    replay_points(&mut list);
+    replay_outlines(&mut list);
+    replay_lines(&mut list);
+    list.text()
+}
+
+/// Coordinates at the boundaries of what is accepted.
+fn edges() -> Vec<f64> {
+    let limit = expect::SIZE_LIMIT;
+    let few = [0.0, 5e-324, 1.0, limit, beside(limit, 1), f64::INFINITY];
+    few.iter().flat_map(|&x| [x, -x]).collect()
+}
+
+fn edge_pairs() -> Vec<[f64; 4]> {
+    let few = edges();
+    let pairs = few.iter().zip(few.iter().rev());
+    pairs.map(|(&x, &y)| [x, y, y, 3.0]).collect()
+}
+
+fn edge_points() -> Vec<[f64; 2]> {
+    let mut list: Vec<_> = edges().iter().map(|&x| [x, 4.0]).collect();
+    list.extend((-1..=1).map(|k| [beside(1e-12, k), 0.0]));
+    list
+}
+
+fn replay_points(list: &mut Records) {
+    let mut two = |f, rust: fn(P, P) -> f64| {
+        list.sample(
+            f,
+            edge_pairs(),
+            |rng| two_points(rng, 0),
+            |v| {
+                let value = || bits(&[rust(P::new(v[0], v[1]), P::new(v[2], v[3]))]);
+                Some((bits(v)?, records::owed(numbers_first(v), value)?))
+            },
+        );
+    };
+    two(1, |a, b| a.dot(b));
+    two(3, |a, b| a.dist(b));
+    two(4, geom::cross);
+    let mut one = |f, rust: fn(P) -> Vec<f64>| {
+        list.sample(
+            f,
+            edge_points(),
+            |rng| one_point(rng, 0),
+            |v| {
+                let value = || bits(&rust(P::new(v[0], v[1])));
+                Some((bits(v)?, records::owed(numbers_first(v), value)?))
+            },
+        );
+    };
+    one(2, |a| vec![a.len()]);
+    one(5, |a| flat(a.norm()).to_vec());
+    one(6, |a| flat(a.perp()).to_vec());
+    list.sample(
+        7,
+        edge_points()
+            .iter()
+            .map(|p| [p[0], p[1], 0.0, 1.0])
+            .collect(),
+        |rng| {
+            let ([x, y], (c, s)) = (one_point(rng, 0), turn(rng));
+            [x, y, c, s]
+        },
+        |v| {
+            let [x, y, c, s] = *v;
+            let checks = [
+                (NUMBER, expect::numbers(&[x, y])),
+                (TURN, expect::turn(c, s)),
+            ];
+            let value = || bits(&flat(P::new(x, y).rotate(c, s)));
+            Some((bits(v)?, records::owed(expect::first(&checks), value)?))
+        },
+    );
+    list.sample(
+        8,
+        edges().iter().map(|&t| [1.0, 2.0, 3.0, -4.0, t]).collect(),
+        |rng| {
+            let [ax, ay, bx, by] = two_points(rng, 0);
+            [
+                ax,
+                ay,
+                bx,
+                by,
+                rng.below(100) as f64 / (1 + rng.below(100)) as f64,
+            ]
+        },
+        |v| {
+            let value = || bits(&flat(P::new(v[0], v[1]).lerp(P::new(v[2], v[3]), v[4])));
+            Some((bits(v)?, records::owed(numbers_first(v), value)?))
+        },
+    );
+}
+
+/// The words of an outline that is small enough for a list.
+fn outline_words(o: &Outline) -> Option<Vec<u64>> {
+    if o.corners.len() > 24 || o.ends.len() > 6 {
+        return None;
+    }
+    let mut words = vec![o.corners.len() as u64, o.ends.len() as u64];
+    words.extend(bits(&o.corners)?);
+    words.extend(&o.ends);
+    Some(words)
+}
+
+fn replay_outlines(list: &mut Records) {
+    let rule = |q: &Query| u64::from(q.rule == FillRule::EvenOdd);
+    list.sample(
+        9,
+        vec![],
+        |rng| Query::point(rng, 0),
+        |q| {
+            let mut given = outline_words(&q.outline)?;
+            given.extend(bits(&flat(q.a))?);
+            let answer = expect::first(&q.checks(&flat(q.a)));
+            let value = || {
+                Some(vec![
+                    i64::from(geom::winding(&q.outline.rings(), q.a)) as u64
+                ])
+            };
+            Some((given, records::owed(answer, value)?))
+        },
+    );
+    list.sample(
+        10,
+        vec![],
+        |rng| Query::point(rng, 0),
+        |q| {
+            let mut given = outline_words(&q.outline)?;
+            given.push(rule(q));
+            given.extend(bits(&flat(q.a))?);
+            let answer = expect::first(&q.checks(&flat(q.a)));
+            let value = || {
+                Some(vec![
+                    geom::point_inside(&q.outline.rings(), q.rule, q.a).into(),
+                ])
+            };
+            Some((given, records::owed(answer, value)?))
+        },
+    );
+    list.sample(
+        11,
+        vec![],
+        |rng| Query::segment(rng, 0),
+        |q| {
+            let mut given = outline_words(&q.outline)?;
+            given.push(rule(q));
+            given.extend(bits(&[q.a.x, q.a.y, q.b.x, q.b.y, q.step])?);
+            let [layout, number] = q.checks(&[q.a.x, q.a.y, q.b.x, q.b.y]);
+            let answer = expect::first(&[layout, number, (SETTING, STEP.contains(&q.step))]);
+            let value = || {
+                let rings = q.outline.rings();
+                Some(vec![
+                    geom::segment_inside(&rings, q.rule, q.a, q.b, q.step).into(),
+                ])
+            };
+            Some((given, records::owed(answer, value)?))
+        },
+    );
+}
+
+/// Whether a call along a line is small enough for a list.
+pub fn small(c: &Cut) -> bool {
+    c.line.len() <= 24 && c.room <= 160
+}
+
+/// What a call that writes points owes: its number, the count and the points.
+pub fn owed_points(w: &Written) -> Option<Vec<u64>> {
+    let points = bits(&w.out[..2 * w.count as usize])?;
+    (w.count <= 60).then(|| [vec![w.answer, w.count], points].concat())
+}
+
+fn replay_lines(list: &mut Records) {
+    let line = |rng: &mut Rng| Cut {
+        line: lines::any(rng, 5.0),
+        len: 0.0,
+        room: 0,
+    };
+    list.sample(12, vec![], line, |c| {
+        let answer = expect::first(&c.checks()[..2]);
+        // Document 01 has +0 where the Rust library's empty sum gives -0.
+        let value = || bits(&[polyline_length(&points(&c.line)) + 0.0]);
+        small(c).then_some(())?;
+        Some((bits(&c.line)?, records::owed(answer, value)?))
+    });
+    list.sample(13, vec![], make_cut, |c| {
+        small(c).then_some(())?;
+        let given = [vec![c.room as u64], bits(&[c.len])?, bits(&c.line)?].concat();
+        Some((given, owed_points(&resample_owed(c))?))
+    });
 }

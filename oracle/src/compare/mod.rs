@@ -4,6 +4,7 @@
 
 pub mod geom;
 pub mod leaves;
+mod records;
 pub mod stroke;
 
 use crate::rng::Rng;
@@ -413,12 +414,12 @@ pub fn groups() -> Vec<Group> {
         Group {
             name: "geom",
             functions: geom::functions(),
-            replay: None,
+            replay: Some(geom::replay),
         },
         Group {
             name: "stroke",
             functions: stroke::functions(),
-            replay: None,
+            replay: Some(stroke::replay),
         },
     ]
 }

@@ -1,7 +1,8 @@
 //! Running stitch.
 
-use super::geom::{Cut, gave, lent, plain_line, written};
-use super::{Function, Operands, no_tie};
+use super::geom::{Cut, gave, lent, owed_points, plain_line, small, written};
+use super::records::{Records, bits};
+use super::{Function, Operands, Written, no_tie};
 use crate::expect::{self, LEN, PASSES, SETTING};
 use crate::inputs::{lines, numbers::setting, outlines::points};
 use crate::ours::stroke as ours;
@@ -49,22 +50,24 @@ fn make(rng: &mut Rng, _: u64) -> Run {
     }
 }
 
+fn running_owed(r: &Run) -> Written {
+    let pts = points(&r.cut.line);
+    let (closed, len, passes) = (r.closed, r.cut.len, r.passes);
+    let [layout, number, setting] = r.cut.checks();
+    let passed = (SETTING, PASSES.contains(&passes));
+    written(
+        expect::first(&[layout, number, setting, passed]),
+        || expect::running_points(&pts, closed, len, passes),
+        r.cut.room,
+        || stroke::running(&pts, closed, len, passes as u32),
+    )
+}
+
 fn running() -> Function {
     Function::new(
         "running",
         make,
-        |r| {
-            let pts = points(&r.cut.line);
-            let (closed, len, passes) = (r.closed, r.cut.len, r.passes);
-            let [layout, number, setting] = r.cut.checks();
-            let passed = (SETTING, PASSES.contains(&passes));
-            written(
-                expect::first(&[layout, number, setting, passed]),
-                || expect::running_points(&pts, closed, len, passes),
-                r.cut.room,
-                || stroke::running(&pts, closed, len, passes as u32),
-            )
-        },
+        running_owed,
         |r| {
             gave(r.cut.room, |out, count| {
                 ours::running(&r.cut.line, r.closed, r.cut.len, r.passes, out, count)
@@ -77,4 +80,24 @@ fn running() -> Function {
         |(_, pts)| stroke::running(pts, true, 25.0, 3),
         lent(|(line, _), out, count| ours::running(line, true, 25.0, 3, out, count)),
     )
+}
+
+/// The replay list: function 14 of README.md's table.
+pub fn replay() -> String {
+    let mut list = Records::default();
+    list.sample(
+        14,
+        vec![],
+        |rng| make(rng, 0),
+        |r| {
+            small(&r.cut).then_some(())?;
+            let (closed, cut) = (u64::from(r.closed), &r.cut);
+            let mut given = vec![cut.room as u64, closed];
+            given.extend(bits(&[cut.len])?);
+            given.push(r.passes);
+            given.extend(bits(&cut.line)?);
+            Some((given, owed_points(&running_owed(r))?))
+        },
+    );
+    list.text()
 }

@@ -1,0 +1,4 @@
+-- What the contracts of `geolists` cite.
+pub mod Words
+pub mod Said
+pub mod Asked
