@@ -2,3 +2,4 @@
 pub mod Words
 pub mod Said
 pub mod Asked
+pub mod Compared

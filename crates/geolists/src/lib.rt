@@ -10,7 +10,7 @@
 //   13 resample_keep_corners the room, len, coordinates
 //   14 running               the room, closed, len, passes, coordinates
 // The last two answer a number, how many points, and the points.
-// The contracts of functions 1 to 12 say exactly when a record agrees; those of 13 and 14 say only that the verdict is 0, 1 or 2.
+// The contract of `judge` says exactly when a record agrees; for 13 and 14 with some room of the size that the record names.
 pub mod answer;
 pub mod outline;
 pub mod record;

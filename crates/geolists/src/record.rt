@@ -1,6 +1,6 @@
 // A record, judged.
 ghost use mathlib.Core.Path.{_≡_};
-ghost use Prim.Native.Nat.{_≤_};
+ghost use Rattle.geolists.specs.Compared.{Judged};
 ghost use Rattle.geolists.specs.Words.{verdict};
 ghost use Rattle.geolists.specs.Asked.{valueWords};
 use crate::said::compare;
@@ -20,7 +20,7 @@ pub fn judge_value(f: u64, w: &[usize], l: &[f64], want: &[usize]) -> u64
 
 // 0 where the function agrees with the record, 1 where it differs, 2 where there is no such function or call.
 pub fn judge(f: u64, w: &[usize], l: &[f64], want: &[usize]) -> u64
-    ensures { λ r. ⌜ (r ≤ 2) × (f ≤ 12 → r ≡ verdict (valueWords f (now (w .entry)) (now (l .entry))) (now (want .entry))) ⌝ }
+    ensures { λ r. ⌜ Judged f (now (w .entry)) (now (l .entry)) (now (want .entry)) r ⌝ }
 {
     if f <= 12 {
         return judge_value(f, w, l, want);

@@ -1,7 +1,7 @@
 // The calls that write points.
 ghost use mathlib.Core.Path.{_≡_};
-ghost use Prim.Native.Nat.{_≤_};
 ghost use lib.ListN.{length};
+ghost use Rattle.geolists.specs.Compared.{compared, resampleJudged, runJudged, InRoom};
 ghost use Rattle.geolists.specs.Words.{bits, same};
 use leaves::to_bits;
 use refusal::Sewn;
@@ -26,7 +26,7 @@ fn same_bits(l: &[f64], want: &[usize]) -> bool
 
 // 0 where a call left the wanted number, count and points, 1 where it left others.
 fn compare(s: Sewn, out: &[f64], want: &[usize]) -> u64
-    ensures { λ r. ⌜ r ≤ 2 ⌝ }
+    ensures { λ r. ⌜ r ≡ compared s (now (out .entry)) (now (want .entry)) ⌝ }
 {
     if want.len() < 2 {
         return 1;
@@ -54,7 +54,7 @@ fn compare(s: Sewn, out: &[f64], want: &[usize]) -> u64
 }
 
 fn resample_into(l: &[f64], out: &mut [f64], want: &[usize]) -> u64
-    ensures { λ r. ⌜ r ≤ 2 ⌝ }
+    ensures { λ r. ⌜ r ≡ resampleJudged (now (l .entry)) (now (out .entry)) (now (want .entry)) ⌝ }
 {
     if l.len() < 2 {
         return 2;
@@ -64,7 +64,7 @@ fn resample_into(l: &[f64], out: &mut [f64], want: &[usize]) -> u64
 }
 
 fn run_into(w: &[usize], l: &[f64], out: &mut [f64], want: &[usize]) -> u64
-    ensures { λ r. ⌜ r ≤ 2 ⌝ }
+    ensures { λ r. ⌜ r ≡ runJudged (now (w .entry)) (now (l .entry)) (now (out .entry)) (now (want .entry)) ⌝ }
 {
     if l.len() < 4 {
         return 2;
@@ -78,7 +78,7 @@ fn run_into(w: &[usize], l: &[f64], out: &mut [f64], want: &[usize]) -> u64
 
 // w are the words of a call, and l the same as floats: the room, len, and the line.
 pub fn resampled(w: &[usize], l: &[f64], want: &[usize]) -> u64
-    ensures { λ r. ⌜ r ≤ 2 ⌝ }
+    ensures { λ r. ⌜ InRoom (λ out. resampleJudged (now (l .entry)) out (now (want .entry))) (now (w .entry)) r ⌝ }
 {
     if w.len() < 1 {
         return 2;
@@ -93,7 +93,7 @@ pub fn resampled(w: &[usize], l: &[f64], want: &[usize]) -> u64
 
 // The room, closed, len, passes, and the line.
 pub fn ran(w: &[usize], l: &[f64], want: &[usize]) -> u64
-    ensures { λ r. ⌜ r ≤ 2 ⌝ }
+    ensures { λ r. ⌜ InRoom (λ out. runJudged (now (w .entry)) (now (l .entry)) out (now (want .entry))) (now (w .entry)) r ⌝ }
 {
     if w.len() < 1 {
         return 2;

@@ -1,49 +1,21 @@
-use Rattle.geolists.proofs.Laws.{verdict-le}
+use mathlib.Core.Path.{refl}
+use native.Mathlib.Omega.{arith}
 use borrow.Author.Needs.{needs}
 use Rattle.geolists.proofs.record.judge.Statement.{statement}
 use Rattle.geolists.proofs.record.judge.Tie as tie
-use Rattle.geolists.proofs.record.judge.Reads as reads
-use Rattle.geolists.proofs.record.judge.Lts as lts
-use Rattle.geolists.proofs.record.judge_value.Reads as judge-value-reads
-use Rattle.geolists.proofs.sewn.ran.Reads as ran-reads
-use Rattle.geolists.proofs.sewn.resampled.Reads as resampled-reads
 
--- src/record.rt:26:9
-judge-value-requires : tie.Need-judge-value-requires
-judge-value-requires c κs = search needs
-
--- src/record.rt:26:9
 returns : tie.Need-returns
-returns c = (rw (c .judge-value .ensures) (verdict-le _ _), λ h. c .judge-value .ensures)
+returns c = record { value = λ h. c .judge-value .ensures; resampled = λ e. absurd (omega (arith, c .before .if1 .taken)); ran = λ e. absurd (omega (arith, c .before .if1 .taken)); none = λ h. absurd (omega (arith, c .before .if1 .taken)) }
 
--- src/record.rt:29:9
-resampled-requires : tie.Need-resampled-requires
-resampled-requires c κs = search needs
-
--- src/record.rt:29:9
 returns-2 : tie.Need-returns-2
-returns-2 c = search needs
+returns-2 c = record { value = λ h. absurd (omega (arith, c .before .before .if1 .left)); resampled = λ e. c .resampled .ensures; ran = λ e. absurd (omega (arith, c .before .if2 .taken)); none = λ h. absurd (omega (arith, c .before .if2 .taken)) }
 
--- src/record.rt:32:9
-ran-requires : tie.Need-ran-requires
-ran-requires c κs = search needs
-
--- src/record.rt:32:9
 returns-3 : tie.Need-returns-3
-returns-3 c = search needs
+returns-3 c = record { value = λ h. absurd (omega (arith, c .before .before .before .if1 .left)); resampled = λ e. absurd (omega (arith, c .before .if3 .taken)); ran = λ e. c .ran .ensures; none = λ h. absurd (omega (arith, c .before .if3 .taken)) }
 
--- src/record.rt:22:1
 returns-4 : tie.Need-returns-4
-returns-4 c = search needs
+returns-4 c = record { value = λ h. absurd (omega (arith, c .before .before .if1 .left)); resampled = λ e. absurd (c .before .if2 .left e); ran = λ e. absurd (c .if3 .left e); none = λ h. refl }
 
 pub judge-spec : {M : Type 1} → statement M
 judge-spec =
-    tie.close
-    (tie.spec
-    judge-value-requires
-    returns
-    resampled-requires
-    returns-2
-    ran-requires
-    returns-3
-    returns-4)
+    tie.close (tie.spec (λ c κs. search needs) returns (λ c κs. search needs) returns-2 (λ c κs. search needs) returns-3 returns-4)
