@@ -1,6 +1,7 @@
 -- What a fill is (Fill), what its calls answer and leave (Calls), and what is proved of both.
 pub mod Fill
 pub mod Calls
+pub mod PieceTable
 pub mod Ks
 pub mod Alls
 pub mod Sections

@@ -5,7 +5,7 @@ use mathlib.Core.Bool.{Bool, cond, _&&_}
 use mathlib.Core.List.{List, [], _∷_, _++_, map}
 use lib.Dec.{eqb}
 use lib.IntN.{pos}
-use lib.ListN.{length, getD, take, drop, replicate}
+use lib.ListN.{length, getD, take, drop}
 use lib.Ieee.{Float, nan}
 use Rattle.seqs.specs.Lists.{upto, sift, each, takeWhile}
 use Rattle.geom.specs.declared.point.P.{P}
@@ -14,6 +14,7 @@ use Rattle.rules.specs.declared.Settings.{Settings}
 use Rattle.rules.specs.declared.Piece.{Piece}
 use Rattle.rules.specs.declared.Entry.{Entry}
 use Rattle.rules.specs.Fill.{overlap, connects, entries}
+use Rattle.rules.specs.PieceTable.{pieceBlock, rowCounts}
 use Rattle.sections.specs.declared.Found.{Found}
 use Rattle.sections.specs.declared.Found.the-variants.{At, Nothing}
 use Rattle.sections.specs.declared.Mark.{Mark}
@@ -120,15 +121,6 @@ unfoldable pub markedIn : List (List P) → FillRule → Settings → List Float
 markedIn rings rule g l w n rows = entries rings rule g [] 0 (rowsIn l w n 0 0 rows)
 
 -- ---- pieces laid out
-
--- a piece's floats
-abbrev pub pieceBlock : Piece → List Float
-pieceBlock p = p .y ∷ p .xa ∷ p .xb ∷ []
-
--- for each piece the count of its row, the first of the rows being row r
-unfoldable pub rowCounts : ℕ → List (List Piece) → List ℕ
-rowCounts r [] = []
-rowCounts r (row ∷ rows) = replicate (length row) r ++ rowCounts (r + 1) rows
 
 -- the slices hold the n pieces of these rows
 pub record Laid (rows : List (List Piece)) (l : List Float) (w : List ℕ) (n : ℕ) : Type 0 where

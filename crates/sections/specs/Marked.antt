@@ -21,8 +21,9 @@ use Rattle.rules.specs.declared.Piece.{Piece}
 use Rattle.rules.specs.declared.Entry.{Entry}
 use Rattle.rules.specs.Alls.{map-append}
 use Rattle.rules.specs.Fill.{overlap, linkEnds, connects, only, joined, joins, entry, after, rowEntries, begun, entries}
+use Rattle.rules.specs.PieceTable.{pieceBlock, rowCounts}
 use Rattle.rules.specs.Sections.{entries-pieces}
-use Rattle.sections.specs.Mark.{pieceIn, flatMarks, rowEnd, rowsIn, markedIn, pieceBlock, rowCounts, Laid}
+use Rattle.sections.specs.Mark.{pieceIn, flatMarks, rowEnd, rowsIn, markedIn, Laid}
 use Rattle.sections.specs.RowEnds.{read-in, drop-in}
 
 -- a piece, and an entry, with the row's number left out

@@ -22,13 +22,14 @@ use Rattle.rules.specs.declared.Settings.{Settings}
 use Rattle.rules.specs.declared.Edge.{Edge}
 use Rattle.rules.specs.declared.Piece.{Piece}
 use Rattle.rules.specs.Fill.{rowAt, piecesAt}
+use Rattle.rules.specs.PieceTable.{pieceBlock, rowCounts}
 use Rattle.edges.specs.declared.rows.Rows.{Rows}
 use Rattle.edges.specs.Span.{rowNumber}
 use Rattle.sweep.specs.declared.key.Key.the-variants.{X}
 use Rattle.sweep.specs.declared.active.Live.{Live}
 use Rattle.sweep.specs.declared.row.Done.{Done}
 use Rattle.sweep.specs.declared.piece.Cut.{Cut}
-use Rattle.sweep.specs.Swept.{ordered, enters, stays, places, cutAt, cuts, spanBlock, pieceBlock, piecePlace, rowCounts, numbers, swept, waiting, sweptAll, Retained, Admitted, Gathered, Rowed, Laid}
+use Rattle.sweep.specs.Swept.{ordered, enters, stays, places, cutAt, cuts, spanBlock, piecePlace, numbers, swept, waiting, sweptAll, Retained, Admitted, Gathered, Rowed, Laid}
 use Rattle.sweep.specs.SweptLaws.{ordered-length, waiting-length, cuts-few, cuts-pieces, added-pieces, asPiece, swept-next, swept-none}
 
 -- ---- a loop that takes up while a test holds

@@ -18,10 +18,11 @@ use Rattle.rules.specs.declared.Settings.{Settings}
 use Rattle.rules.specs.declared.Edge.{Edge}
 use Rattle.rules.specs.declared.Piece.{Piece}
 use Rattle.rules.specs.Fill.{rowAt, piecesAt}
+use Rattle.rules.specs.PieceTable.{pieceBlock, rowCounts}
 use Rattle.edges.specs.declared.rows.Rows.{Rows}
 use Rattle.edges.specs.Span.{rowNumber}
 use Rattle.sweep.specs.declared.piece.Span.{Span}
-use Rattle.sweep.specs.Swept.{pieceBlock, piecePlace, rowCounts, cuts, cutAt, enters, places, numbers, swept, Laid}
+use Rattle.sweep.specs.Swept.{piecePlace, cuts, cutAt, enters, places, numbers, swept, Laid}
 use Rattle.sweep.specs.SweptLaws.{asPiece, cuts-pieces}
 
 abbrev flat : List (List Piece) → List Piece

@@ -18,6 +18,7 @@ use Rattle.rules.specs.declared.Settings.{Settings}
 use Rattle.rules.specs.declared.Edge.{Edge}
 use Rattle.rules.specs.declared.Piece.{Piece}
 use Rattle.rules.specs.Fill.{edge, rowAt, starts, lives, crossX, crossing, spans, shrink, minRow, piecesAt}
+use Rattle.rules.specs.PieceTable.{pieceBlock, rowCounts}
 use Rattle.edges.specs.declared.rows.Rows.{Rows}
 use Rattle.edges.specs.Span.{rowNumber, Spanned}
 use Rattle.sweep.specs.declared.key.Key.{Key}
@@ -109,16 +110,8 @@ Stepped c es l s End = restOf c es l s ≡ []
 abbrev pub spanBlock : Float → Span → List Float
 spanBlock y p = y ∷ p .xa ∷ p .xb ∷ []
 
-abbrev pub pieceBlock : Piece → List Float
-pieceBlock p = p .y ∷ p .xa ∷ p .xb ∷ []
-
 abbrev pub piecePlace : ℕ → ℕ → ℕ
 piecePlace e i = 6 * e + 3 * i
-
--- for each piece the count of its row, the first of the rows being row r
-unfoldable pub rowCounts : ℕ → List (List Piece) → List ℕ
-rowCounts r [] = []
-rowCounts r (row ∷ rows) = replicate (length row) r ++ rowCounts (r + 1) rows
 
 -- ---- the rows one after the other
 

@@ -20,13 +20,14 @@ use Rattle.rules.specs.declared.Settings.{Settings}
 use Rattle.rules.specs.declared.Edge.{Edge}
 use Rattle.rules.specs.declared.Piece.{Piece}
 use Rattle.rules.specs.Fill.{rowAt, spans, crossing, pieceOf, wide, piecesAt}
+use Rattle.rules.specs.PieceTable.{pieceBlock}
 use Rattle.edges.specs.declared.rows.Rows.{Rows}
 use Rattle.edges.specs.Span.{rowNumber}
 use Rattle.sweep.specs.declared.key.Key.{Key}
 use Rattle.sweep.specs.declared.key.Key.the-variants.{Top, Bottom}
 use Rattle.sweep.specs.declared.piece.Cut.{Cut}
 use Rattle.sweep.specs.declared.piece.Span.{Span}
-use Rattle.sweep.specs.Swept.{by, ordered, waiting, enters, places, cutAt, cutEnds, wideSpan, cutsFrom, cuts, spanBlock, pieceBlock, numbers, swept}
+use Rattle.sweep.specs.Swept.{by, ordered, waiting, enters, places, cutAt, cutEnds, wideSpan, cutsFrom, cuts, spanBlock, numbers, swept}
 
 pub ordered-length : (key : Key) (es : List Edge) (l : List ℕ) → length (ordered key es l) ≡ length l
 unfolding ordered
