@@ -38,14 +38,16 @@ needFloats e i = 6 * e + 4 * i
 abbrev pub needWholes : ℕ → ℕ → ℕ
 needWholes e i = 4 * e + 6 * i
 
--- the first of the table that applies, for working slices of `floats` and `wholes` and an output that `fits` its slices or not
-unfoldable pub refusal : List Float → List ℕ → FillRule → Settings → ℕ → Bool → ℕ → ℕ → Bool → ℕ
-refusal corners ends rule g stagger bottomUp floats wholes fits =
+-- WORK and ROOM, where 1 to 5 don't apply: for working slices of `floats` and `wholes`, and an output that `fits` its slices or not
+unfoldable pub roomed : List Float → List ℕ → FillRule → Settings → Bool → ℕ → ℕ → Bool → ℕ
+roomed corners ends rule g bottomUp floats wholes fits =
     let e = length (edges g (rings corners ends)) in
     let i = length (rowList (rings corners ends) rule g bottomUp) in
-    gate corners ends g stagger
-    (cond (ltb floats (needFloats e i) || ltb wholes (needWholes e i)) WORK
-    (cond (not fits) ROOM DONE))
+    cond (ltb floats (needFloats e i) || ltb wholes (needWholes e i)) WORK (cond (not fits) ROOM DONE)
+
+-- the first of the table that applies
+unfoldable pub refusal : List Float → List ℕ → FillRule → Settings → ℕ → Bool → ℕ → ℕ → Bool → ℕ
+refusal corners ends rule g stagger bottomUp floats wholes fits = gate corners ends g stagger (roomed corners ends rule g bottomUp floats wholes fits)
 
 -- ---- what a call leaves, by its answer n
 
@@ -72,11 +74,14 @@ unfoldable pub sewnEnds : ℕ → List (List P) → List ℕ
 sewnEnds n [] = []
 sewnEnds n (s ∷ ss) = (n + length s) ∷ sewnEnds (n + length s) ss
 
--- tatami's answer, for output slices of `points` floats and `ends` whole numbers
+-- there is room for the sections ss in output slices of `points` floats and `sectionEnds` whole numbers
+abbrev pub sewnFits : List (List P) → ℕ → ℕ → Bool
+sewnFits ss points sectionEnds = leb (2 * length (sewnPoints ss)) points && leb (length ss) sectionEnds
+
+-- tatami's answer
 unfoldable pub tatamiAnswer : List Float → List ℕ → FillRule → Settings → ℕ → Bool → ℕ → ℕ → ℕ → ℕ → ℕ
 tatamiAnswer corners ends rule g stagger bottomUp floats wholes points sectionEnds =
-    let ss = tatami (rings corners ends) rule g stagger bottomUp in
-    refusal corners ends rule g stagger bottomUp floats wholes (leb (2 * length (sewnPoints ss)) points && leb (length ss) sectionEnds)
+    refusal corners ends rule g stagger bottomUp floats wholes (sewnFits (tatami (rings corners ends) rule g stagger bottomUp) points sectionEnds)
 
 -- ---- the output of the row list
 
@@ -92,8 +97,11 @@ listedRows es = map (λ e. e .piece .k) es
 unfoldable pub listedSections : List Entry → List ℕ
 listedSections es = map (λ e. e .section) es
 
--- the row list's answer, for output slices of `ys` floats, `rows` row numbers and `sections` section numbers
+-- there is room for n pieces in output slices of `ys` floats, `rows` row numbers and `sections` section numbers
+abbrev pub listFits : ℕ → ℕ → ℕ → ℕ → Bool
+listFits n ys rows sections = leb (3 * n) ys && leb n rows && leb n sections
+
+-- the row list's answer
 unfoldable pub rowListAnswer : List Float → List ℕ → FillRule → Settings → ℕ → Bool → ℕ → ℕ → ℕ → ℕ → ℕ → ℕ
 rowListAnswer corners ends rule g stagger bottomUp floats wholes ys rows sections =
-    let n = length (rowList (rings corners ends) rule g bottomUp) in
-    refusal corners ends rule g stagger bottomUp floats wholes (leb (3 * n) ys && leb n rows && leb n sections)
+    refusal corners ends rule g stagger bottomUp floats wholes (listFits (length (rowList (rings corners ends) rule g bottomUp)) ys rows sections)

@@ -18,7 +18,7 @@ use Rattle.geom.specs.Inside.{inside, pointInside}
 use Rattle.geom.specs.Outline.{points, cut, rings, rising}
 use Rattle.geom.specs.Limits.{largest, within, goodNumber, goodNumbers, goodSpacing, goodLen, goodInset, goodTurn, goodOutline}
 use Rattle.refusal.specs.Refusal.{DONE, SETTING, WORK, ROOM}
-use Rattle.rules.specs.Calls.{goodSettings, gate, refusal, sewnPoints, tatamiAnswer}
+use Rattle.rules.specs.Calls.{goodSettings, gate, roomed, refusal, sewnPoints, tatamiAnswer}
 use Rattle.rules.specs.declared.Settings.{Settings}
 use Rattle.rules.specs.Fill.{sidesTo, sides, edgeOf, keptSide, turned, edges, howMany, through, ymin, ymax, kLo, kHi, rowNumbers, rowAt, starts, lives, crossX, byX, crossed, dir, crossing, spans, shrink, pieceOf, minRow, wide, piecesAt, piecesOf, overlap, linkEnds, linkInside, connects, joined, joins, rowEntries, begun, entries, met, rowList, section, sections, cycle, remEuclid, offset, minEnd, m0, m1, needles, rowPoints, parts, between, sewFrom, sew, sewn, tatami}
 
@@ -72,25 +72,25 @@ abbrev corners : List Float
 corners = n 0 ∷ n 0 ∷ n 10 ∷ n 0 ∷ n 10 ∷ n 10 ∷ n 0 ∷ n 10 ∷ []
 
 pub k1-done : tatamiAnswer corners (4 ∷ []) NonZero (set 10 zero64) 1 false 20 20 8 1 ≡ DONE
-unfolding add sub mul div neg lt le eq ofInt round toSigned toUnsigned odd isNan literal negative before smaller larger magnitude wholeOf floor ceil isqrt nearRoot rootUnits root len dist lerp along Rattle.geom.specs.Winding.edge Rattle.geom.specs.Winding.edges ring winding inside pointInside sidesTo sides edgeOf keptSide turned edges howMany through ymin ymax kLo kHi rowNumbers rowAt starts lives crossX byX crossed dir crossing spans shrink pieceOf minRow wide piecesAt piecesOf overlap linkEnds linkInside connects joined joins rowEntries begun entries met rowList section sections cycle remEuclid offset minEnd m0 m1 needles rowPoints parts between sewFrom sew sewn tatami points cut rings rising largest within goodNumber goodNumbers goodSpacing goodLen goodInset goodTurn goodOutline goodSettings gate refusal sewnPoints tatamiAnswer finite
+unfolding add sub mul div neg lt le eq ofInt round toSigned toUnsigned odd isNan literal negative before smaller larger magnitude wholeOf floor ceil isqrt nearRoot rootUnits root len dist lerp along Rattle.geom.specs.Winding.edge Rattle.geom.specs.Winding.edges ring winding inside pointInside sidesTo sides edgeOf keptSide turned edges howMany through ymin ymax kLo kHi rowNumbers rowAt starts lives crossX byX crossed dir crossing spans shrink pieceOf minRow wide piecesAt piecesOf overlap linkEnds linkInside connects joined joins rowEntries begun entries met rowList section sections cycle remEuclid offset minEnd m0 m1 needles rowPoints parts between sewFrom sew sewn tatami points cut rings rising largest within goodNumber goodNumbers goodSpacing goodLen goodInset goodTurn goodOutline goodSettings gate roomed refusal sewnPoints tatamiAnswer finite
 k1-done = refl
 
 -- one float short of the need
 pub k1-work : tatamiAnswer corners (4 ∷ []) NonZero (set 10 zero64) 1 false 19 20 8 1 ≡ WORK
-unfolding add sub mul div neg lt le eq ofInt round toSigned toUnsigned odd isNan literal negative before smaller larger magnitude wholeOf floor ceil isqrt nearRoot rootUnits root len dist lerp along Rattle.geom.specs.Winding.edge Rattle.geom.specs.Winding.edges ring winding inside pointInside sidesTo sides edgeOf keptSide turned edges howMany through ymin ymax kLo kHi rowNumbers rowAt starts lives crossX byX crossed dir crossing spans shrink pieceOf minRow wide piecesAt piecesOf overlap linkEnds linkInside connects joined joins rowEntries begun entries met rowList section sections cycle remEuclid offset minEnd m0 m1 needles rowPoints parts between sewFrom sew sewn tatami points cut rings rising largest within goodNumber goodNumbers goodSpacing goodLen goodInset goodTurn goodOutline goodSettings gate refusal sewnPoints tatamiAnswer finite
+unfolding add sub mul div neg lt le eq ofInt round toSigned toUnsigned odd isNan literal negative before smaller larger magnitude wholeOf floor ceil isqrt nearRoot rootUnits root len dist lerp along Rattle.geom.specs.Winding.edge Rattle.geom.specs.Winding.edges ring winding inside pointInside sidesTo sides edgeOf keptSide turned edges howMany through ymin ymax kLo kHi rowNumbers rowAt starts lives crossX byX crossed dir crossing spans shrink pieceOf minRow wide piecesAt piecesOf overlap linkEnds linkInside connects joined joins rowEntries begun entries met rowList section sections cycle remEuclid offset minEnd m0 m1 needles rowPoints parts between sewFrom sew sewn tatami points cut rings rising largest within goodNumber goodNumbers goodSpacing goodLen goodInset goodTurn goodOutline goodSettings gate roomed refusal sewnPoints tatamiAnswer finite
 k1-work = refl
 
 -- an output of 7 floats
 pub k1-room : tatamiAnswer corners (4 ∷ []) NonZero (set 10 zero64) 1 false 20 20 7 1 ≡ ROOM
-unfolding add sub mul div neg lt le eq ofInt round toSigned toUnsigned odd isNan literal negative before smaller larger magnitude wholeOf floor ceil isqrt nearRoot rootUnits root len dist lerp along Rattle.geom.specs.Winding.edge Rattle.geom.specs.Winding.edges ring winding inside pointInside sidesTo sides edgeOf keptSide turned edges howMany through ymin ymax kLo kHi rowNumbers rowAt starts lives crossX byX crossed dir crossing spans shrink pieceOf minRow wide piecesAt piecesOf overlap linkEnds linkInside connects joined joins rowEntries begun entries met rowList section sections cycle remEuclid offset minEnd m0 m1 needles rowPoints parts between sewFrom sew sewn tatami points cut rings rising largest within goodNumber goodNumbers goodSpacing goodLen goodInset goodTurn goodOutline goodSettings gate refusal sewnPoints tatamiAnswer finite
+unfolding add sub mul div neg lt le eq ofInt round toSigned toUnsigned odd isNan literal negative before smaller larger magnitude wholeOf floor ceil isqrt nearRoot rootUnits root len dist lerp along Rattle.geom.specs.Winding.edge Rattle.geom.specs.Winding.edges ring winding inside pointInside sidesTo sides edgeOf keptSide turned edges howMany through ymin ymax kLo kHi rowNumbers rowAt starts lives crossX byX crossed dir crossing spans shrink pieceOf minRow wide piecesAt piecesOf overlap linkEnds linkInside connects joined joins rowEntries begun entries met rowList section sections cycle remEuclid offset minEnd m0 m1 needles rowPoints parts between sewFrom sew sewn tatami points cut rings rising largest within goodNumber goodNumbers goodSpacing goodLen goodInset goodTurn goodOutline goodSettings gate roomed refusal sewnPoints tatamiAnswer finite
 k1-room = refl
 
 -- spacing 0.49
 pub k1-setting : tatamiAnswer corners (4 ∷ []) NonZero (record { spacing = literal 49 100; len = n 10; inset = n 0; pull = n 0; cosine = n 1; sine = n 0 }) 1 false 20 20 8 1 ≡ SETTING
-unfolding add sub mul div neg lt le eq ofInt round toSigned toUnsigned odd isNan literal negative before smaller larger magnitude wholeOf floor ceil isqrt nearRoot rootUnits root len dist lerp along Rattle.geom.specs.Winding.edge Rattle.geom.specs.Winding.edges ring winding inside pointInside sidesTo sides edgeOf keptSide turned edges howMany through ymin ymax kLo kHi rowNumbers rowAt starts lives crossX byX crossed dir crossing spans shrink pieceOf minRow wide piecesAt piecesOf overlap linkEnds linkInside connects joined joins rowEntries begun entries met rowList section sections cycle remEuclid offset minEnd m0 m1 needles rowPoints parts between sewFrom sew sewn tatami points cut rings rising largest within goodNumber goodNumbers goodSpacing goodLen goodInset goodTurn goodOutline goodSettings gate refusal sewnPoints tatamiAnswer finite
+unfolding add sub mul div neg lt le eq ofInt round toSigned toUnsigned odd isNan literal negative before smaller larger magnitude wholeOf floor ceil isqrt nearRoot rootUnits root len dist lerp along Rattle.geom.specs.Winding.edge Rattle.geom.specs.Winding.edges ring winding inside pointInside sidesTo sides edgeOf keptSide turned edges howMany through ymin ymax kLo kHi rowNumbers rowAt starts lives crossX byX crossed dir crossing spans shrink pieceOf minRow wide piecesAt piecesOf overlap linkEnds linkInside connects joined joins rowEntries begun entries met rowList section sections cycle remEuclid offset minEnd m0 m1 needles rowPoints parts between sewFrom sew sewn tatami points cut rings rising largest within goodNumber goodNumbers goodSpacing goodLen goodInset goodTurn goodOutline goodSettings gate roomed refusal sewnPoints tatamiAnswer finite
 k1-setting = refl
 
 -- no rings
 pub none-done : tatamiAnswer [] [] NonZero (set 10 zero64) 1 false 0 0 0 0 ≡ DONE
-unfolding add sub mul div neg lt le eq ofInt round toSigned toUnsigned odd isNan literal negative before smaller larger magnitude wholeOf floor ceil isqrt nearRoot rootUnits root len dist lerp along Rattle.geom.specs.Winding.edge Rattle.geom.specs.Winding.edges ring winding inside pointInside sidesTo sides edgeOf keptSide turned edges howMany through ymin ymax kLo kHi rowNumbers rowAt starts lives crossX byX crossed dir crossing spans shrink pieceOf minRow wide piecesAt piecesOf overlap linkEnds linkInside connects joined joins rowEntries begun entries met rowList section sections cycle remEuclid offset minEnd m0 m1 needles rowPoints parts between sewFrom sew sewn tatami points cut rings rising largest within goodNumber goodNumbers goodSpacing goodLen goodInset goodTurn goodOutline goodSettings gate refusal sewnPoints tatamiAnswer finite
+unfolding add sub mul div neg lt le eq ofInt round toSigned toUnsigned odd isNan literal negative before smaller larger magnitude wholeOf floor ceil isqrt nearRoot rootUnits root len dist lerp along Rattle.geom.specs.Winding.edge Rattle.geom.specs.Winding.edges ring winding inside pointInside sidesTo sides edgeOf keptSide turned edges howMany through ymin ymax kLo kHi rowNumbers rowAt starts lives crossX byX crossed dir crossing spans shrink pieceOf minRow wide piecesAt piecesOf overlap linkEnds linkInside connects joined joins rowEntries begun entries met rowList section sections cycle remEuclid offset minEnd m0 m1 needles rowPoints parts between sewFrom sew sewn tatami points cut rings rising largest within goodNumber goodNumbers goodSpacing goodLen goodInset goodTurn goodOutline goodSettings gate roomed refusal sewnPoints tatamiAnswer finite
 none-done = refl

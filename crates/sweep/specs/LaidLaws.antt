@@ -28,13 +28,13 @@ use Rattle.sweep.specs.SweptLaws.{asPiece, cuts-pieces}
 abbrev flat : List (List Piece) → List Piece
 flat rows = each (λ r. r) rows
 
-counts-length : (r : ℕ) (rows : List (List Piece)) → length (rowCounts r rows) ≡ length (flat rows)
+pub counts-length : (r : ℕ) (rows : List (List Piece)) → length (rowCounts r rows) ≡ length (flat rows)
 unfolding rowCounts
 counts-length r [] = refl
 counts-length r (row ∷ rows) = omega (arith, length-append (replicate (length row) r) (rowCounts (r + 1) rows), length-replicate (length row) r, length-append row (flat rows), counts-length (r + 1) rows)
 
 -- what was written where there is room
-wrote-there : {A : Type 0} {d d′ : List A} (k : ℕ) (m : List A) → Wrote d d′ k m → k + length m ≤ length d → drop k d′ ≡ m ++ drop (k + length m) d
+pub wrote-there : {A : Type 0} {d d′ : List A} (k : ℕ) (m : List A) → Wrote d d′ k m → k + length m ≤ length d → drop k d′ ≡ m ++ drop (k + length m) d
 wrote-there {d = d} {d′ = d′} k m w h = ap (drop k) (w .is h ∙ append-assoc (take k d) m (drop (k + length m) d)) ∙ drop-at (take k d) (m ++ drop (k + length m) d) k (length-take-le k d (omega arith))
 
 pub record Read (d : List Float) (k : ℕ) (p : Piece) : Type 0 where
@@ -42,7 +42,7 @@ pub record Read (d : List Float) (k : ℕ) (p : Piece) : Type 0 where
   pub xa : getD d (k + 1) nan ≡ p .xa
   pub xb : getD d (k + 2) nan ≡ p .xb
 
-block-at : (ps : List Piece) (rest : List Float) (i : ℕ) (z : Piece) → i < length ps → Read (each pieceBlock ps ++ rest) (3 * i) (getD ps i z)
+pub block-at : (ps : List Piece) (rest : List Float) (i : ℕ) (z : Piece) → i < length ps → Read (each pieceBlock ps ++ rest) (3 * i) (getD ps i z)
 block-at [] rest i z h = absurd (omega arith)
 block-at (p ∷ ps) rest zero z h = record { y = refl; xa = refl; xb = refl }
 block-at (p ∷ ps) rest (suc i) z h =
