@@ -1,0 +1,15 @@
+-- The fill's records, as a C entry is given and gives their numbers. Definitions only.
+use Prim.Native.Nat.{ℕ}
+use lib.Ieee.{Float}
+use Rattle.rules.specs.declared.Settings.{Settings}
+use Rattle.tatami.specs.declared.Filled.{Filled}
+use Rattle.tatami.specs.declared.Listed.{Listed}
+
+abbrev pub settings : Float → Float → Float → Float → Float → Float → Settings
+settings spacing len inset pull cosine sine = record { spacing = spacing; len = len; inset = inset; pull = pull; cosine = cosine; sine = sine }
+
+abbrev pub filled : ℕ → ℕ → ℕ → Filled
+filled answer sections points = record { answer = answer; sections = sections; points = points }
+
+abbrev pub listed : ℕ → ℕ → Listed
+listed answer pieces = record { answer = answer; pieces = pieces }
