@@ -1,0 +1,201 @@
+//! The fill: `tatami` and the row list.
+
+use super::{Function, Operands, Outcome, Tie, list, simplicity};
+use crate::inputs::fills::{self, Fill, boundaries, lend, ways};
+use crate::ours::fill as ours;
+use crate::owed::{self, Left, MARGIN, MARK, Order, fresh};
+use crate::rng::Rng;
+
+const EQUAL_CROSSINGS: &str = "equal crossings";
+
+pub fn functions() -> Vec<Function> {
+    vec![
+        function("tatami", owed::tatami_need, 4, owed::tatami, tatami_left),
+        function(
+            "row_list",
+            owed::row_list_need,
+            5,
+            owed::row_list,
+            row_list_left,
+        ),
+    ]
+}
+
+/// A fill, and how many words it is lent in each slice: floats, wholes, outputs.
+struct Call {
+    fill: Fill,
+    lent: Vec<usize>,
+}
+
+impl Operands for Call {
+    fn size(&self) -> (usize, u64) {
+        let f = &self.fill;
+        let numbers = [f.spacing, f.len, f.inset, f.pull, f.cosine, f.sine];
+        let all = f.outline.corners.iter().chain(&numbers);
+        (
+            f.outline.corners.len() / 2 + f.outline.ends.len(),
+            all.copied().map(simplicity).sum::<u64>() + f.stagger.min(1000),
+        )
+    }
+    fn show(&self) -> String {
+        let f = &self.fill;
+        format!(
+            "corners {} ends {:x?} rule {:x} spacing, len, inset, pull, cosine, sine {} stagger {:x} bottom_up {} lent {:?}",
+            list(&f.outline.corners),
+            f.outline.ends,
+            f.rule,
+            list(&[f.spacing, f.len, f.inset, f.pull, f.cosine, f.sine]),
+            f.stagger,
+            f.bottom_up,
+            self.lent
+        )
+    }
+}
+
+impl Outcome for Left {
+    fn same(&self, other: &Self) -> bool {
+        self == other
+    }
+    fn show(&self) -> String {
+        let slices: Vec<String> = self.slices.iter().map(|s| show_slice(s)).collect();
+        format!(
+            "answer {} counts {:x?} {}",
+            self.answer,
+            self.counts,
+            slices.join(" ")
+        )
+    }
+    fn answer(&self) -> Option<u64> {
+        Some(self.answer)
+    }
+}
+
+/// A lent slice with its margin, `=` for a word that stands as it was, a run of
+/// equal words as one.
+fn show_slice(slice: &[u64]) -> String {
+    let word = |(i, &w): (usize, &u64)| {
+        if w == MARK + i as u64 {
+            "=".to_string()
+        } else {
+            format!("{w:x}")
+        }
+    };
+    let words: Vec<String> = slice.iter().enumerate().map(word).collect();
+    let runs = words.chunk_by(|a, b| a == b).map(|run| match run.len() {
+        1 => run[0].clone(),
+        n => format!("{}*{n}", run[0]),
+    });
+    format!("[{}]", runs.collect::<Vec<_>>().join(" "))
+}
+
+type Need = fn(&Fill) -> Option<Vec<usize>>;
+
+fn function(
+    name: &'static str,
+    need: Need,
+    slices: usize,
+    owed: fn(&Fill, &[usize], Order) -> Left,
+    ours: fn(&Fill, &[usize]) -> Left,
+) -> Function {
+    let tie = move |c: &Call| -> Tie<Left> {
+        owed::tied(&c.fill).then(|| (EQUAL_CROSSINGS, owed(&c.fill, &c.lent, Order::ByPlace)))
+    };
+    Function::new(
+        name,
+        move |rng, n| make(rng, n as usize, need, slices),
+        move |c: &Call| owed(&c.fill, &c.lent, Order::Original),
+        move |c: &Call| ours(&c.fill, &c.lent),
+        tie,
+    )
+    .usually(20_000)
+}
+
+/// The boundaries first, each lent in every way, and then any fill.
+fn make(rng: &mut Rng, call: usize, need: Need, slices: usize) -> Call {
+    let ways = ways(slices);
+    let (fill, way) = match boundaries().get(call / ways) {
+        Some(fill) => (fill.clone(), call % ways),
+        // The first three ways are enough for every call.
+        None if rng.one_in(2) => (fills::any(rng), rng.index(3)),
+        None => (fills::any(rng), rng.index(ways)),
+    };
+    // A call that is refused anyway is lent some words to leave alone.
+    let refused = || (5..5 + slices).collect();
+    let mut lent = lend(way, &need(&fill).unwrap_or_else(refused));
+    if way == 1 {
+        lent.iter_mut().for_each(|n| *n += rng.index(40));
+    }
+    Call { fill, lent }
+}
+
+/// Slices as they are lent, of the one kind and of the other.
+fn floats(words: usize) -> Vec<f64> {
+    fresh(words).into_iter().map(f64::from_bits).collect()
+}
+
+fn signed(words: usize) -> Vec<i64> {
+    fresh(words).into_iter().map(|w| w as i64).collect()
+}
+
+fn lent<T>(slice: &mut [T]) -> &mut [T] {
+    let behind = slice.len() - MARGIN;
+    &mut slice[MARGIN..behind]
+}
+
+fn bits(slice: Vec<f64>) -> Vec<u64> {
+    slice.into_iter().map(f64::to_bits).collect()
+}
+
+/// What our `tatami` leaves.
+fn tatami_left(f: &Fill, words: &[usize]) -> Left {
+    let (mut work, mut wholes) = (floats(words[0]), fresh(words[1]));
+    let (mut points, mut ends) = (floats(words[2]), fresh(words[3]));
+    let mut counts = vec![MARK; 2];
+    let [sections, count] = &mut counts[..] else {
+        unreachable!("two counts")
+    };
+    let answer = ours::tatami(
+        f,
+        ours::Work {
+            floats: lent(&mut work),
+            wholes: lent(&mut wholes),
+        },
+        ours::Sewn {
+            points: lent(&mut points),
+            section_ends: lent(&mut ends),
+            sections,
+            count,
+        },
+    );
+    Left {
+        answer,
+        counts,
+        slices: vec![bits(work), wholes, bits(points), ends],
+    }
+}
+
+/// What our row list leaves.
+fn row_list_left(f: &Fill, words: &[usize]) -> Left {
+    let (mut work, mut wholes) = (floats(words[0]), fresh(words[1]));
+    let (mut ys, mut rows, mut numbers) = (floats(words[2]), signed(words[3]), fresh(words[4]));
+    let mut counts = vec![MARK];
+    let answer = ours::row_list(
+        f,
+        ours::Work {
+            floats: lent(&mut work),
+            wholes: lent(&mut wholes),
+        },
+        ours::Listed {
+            ys: lent(&mut ys),
+            rows: lent(&mut rows),
+            section_numbers: lent(&mut numbers),
+            pieces: &mut counts[0],
+        },
+    );
+    let rows = rows.into_iter().map(|k| k as u64).collect();
+    Left {
+        answer,
+        counts,
+        slices: vec![bits(work), wholes, bits(ys), rows, numbers],
+    }
+}
