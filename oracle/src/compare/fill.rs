@@ -1,24 +1,28 @@
 //! The fill: `tatami` and the row list.
 
 use super::{Function, Operands, Outcome, Tie, list, simplicity};
+use crate::expect::DONE;
+use crate::inputs::crests;
 use crate::inputs::fills::{self, Fill, boundaries, lend, ways};
 use crate::ours::fill as ours;
 use crate::owed::{self, Left, MARGIN, MARK, Order, fresh};
 use crate::rng::Rng;
+use std::cell::RefCell;
+use zigzag::fill::{FillParams, row_list, tatami};
+use zigzag::geom::{FillRule, Polyline};
 
 const EQUAL_CROSSINGS: &str = "equal crossings";
 
 pub fn functions() -> Vec<Function> {
-    vec![
-        function("tatami", owed::tatami_need, 4, owed::tatami, tatami_left),
-        function(
-            "row_list",
-            owed::row_list_need,
-            5,
-            owed::row_list,
-            row_list_left,
-        ),
-    ]
+    let sew = function("tatami", owed::tatami_need, 4, owed::tatami, tatami_left);
+    let list = function(
+        "row_list",
+        owed::row_list_need,
+        5,
+        owed::row_list,
+        row_list_left,
+    );
+    vec![timed_tatami(sew), timed_row_list(list)]
 }
 
 /// A fill, and how many words it is lent in each slice: floats, wholes, outputs.
@@ -198,4 +202,105 @@ fn row_list_left(f: &Fill, words: &[usize]) -> Left {
         counts,
         slices: vec![bits(work), wholes, bits(ys), rows, numbers],
     }
+}
+
+/// A fill in both forms, and its slices, lent again and again as a caller
+/// would, each as long as the need: the Rust makes new lists for each call.
+struct Timed {
+    fill: Fill,
+    rings: Vec<Polyline>,
+    rule: FillRule,
+    params: FillParams,
+    slices: RefCell<Slices>,
+}
+
+struct Slices {
+    floats: Vec<f64>,
+    wholes: Vec<u64>,
+    points: Vec<f64>,
+    numbers: Vec<u64>,
+    rows: Vec<i64>,
+}
+
+impl Timed {
+    fn new(fill: &Fill, need: Need) -> Timed {
+        let need = need(fill).expect("a fill to be timed is refused");
+        Timed {
+            rings: fill.outline.rings(),
+            rule: fill.rule(),
+            params: fill.params(),
+            slices: RefCell::new(Slices {
+                floats: vec![0.0; need[0]],
+                wholes: vec![0; need[1]],
+                points: vec![0.0; need[2]],
+                numbers: vec![0; need[3]],
+                rows: vec![0; need[3]],
+            }),
+            fill: fill.clone(),
+        }
+    }
+
+    fn tatami(&self) -> (u64, u64) {
+        let s = &mut *self.slices.borrow_mut();
+        let (mut sections, mut count) = (0, 0);
+        let work = ours::Work {
+            floats: &mut s.floats,
+            wholes: &mut s.wholes,
+        };
+        let out = ours::Sewn {
+            points: &mut s.points,
+            section_ends: &mut s.numbers,
+            sections: &mut sections,
+            count: &mut count,
+        };
+        assert_eq!(ours::tatami(&self.fill, work, out), DONE);
+        (sections, count)
+    }
+
+    fn row_list(&self) -> u64 {
+        let s = &mut *self.slices.borrow_mut();
+        let mut pieces = 0;
+        let work = ours::Work {
+            floats: &mut s.floats,
+            wholes: &mut s.wholes,
+        };
+        let out = ours::Listed {
+            ys: &mut s.points,
+            rows: &mut s.rows,
+            section_numbers: &mut s.numbers,
+            pieces: &mut pieces,
+        };
+        assert_eq!(ours::row_list(&self.fill, work, out), DONE);
+        pieces
+    }
+}
+
+fn timed_tatami(mut function: Function) -> Function {
+    let mut cases: Vec<(String, Fill)> = Vec::new();
+    cases.extend(crests::named().into_iter().map(|(n, f)| (n.into(), f)));
+    let corners = crests::by_corners().into_iter();
+    cases.extend(corners.map(|(n, f)| (format!("100 rows, {n} corners"), f)));
+    let rows = crests::by_rows().into_iter();
+    cases.extend(rows.map(|(n, f)| (format!("40 corners, {n} rows"), f)));
+    for (name, fill) in cases {
+        function = function.timed_on(
+            format!("tatami {name}"),
+            move |_| vec![Timed::new(&fill, owed::tatami_need)],
+            |t| tatami(&t.rings, t.rule, &t.params),
+            Timed::tatami,
+        );
+    }
+    function
+}
+
+fn timed_row_list(mut function: Function) -> Function {
+    for (name, fill) in crests::named() {
+        function = function.timed_on(
+            format!("row_list {name}"),
+            move |_| vec![Timed::new(&fill, owed::row_list_need)],
+            |t| row_list(&t.rings, t.rule, &t.params),
+            Timed::row_list,
+        );
+    }
+    function
 }

@@ -152,7 +152,7 @@ impl Function {
             let t = (bench.run)(&mut Rng::new(seed, self.name));
             let (label, ours, rust) = (&bench.label, t.ours, t.rust);
             println!(
-                "{label:<34} ours {ours:13.2} ns   Rust {rust:13.2} ns   ratio {:7.3}",
+                "{label:<38} ours {ours:13.2} ns   Rust {rust:13.2} ns   ratio {:7.3}",
                 ours / rust
             );
         }
