@@ -1,5 +1,6 @@
 //! The fill: `tatami` and the row list.
 
+use super::records::{self, Records};
 use super::{Function, Operands, Outcome, Tie, list, simplicity};
 use crate::expect::DONE;
 use crate::inputs::crests;
@@ -93,12 +94,13 @@ fn show_slice(slice: &[u64]) -> String {
 }
 
 type Need = fn(&Fill) -> Option<Vec<usize>>;
+type Owed = fn(&Fill, &[usize], Order) -> Left;
 
 fn function(
     name: &'static str,
     need: Need,
     slices: usize,
-    owed: fn(&Fill, &[usize], Order) -> Left,
+    owed: Owed,
     ours: fn(&Fill, &[usize]) -> Left,
 ) -> Function {
     let tie = move |c: &Call| -> Tie<Left> {
@@ -303,4 +305,83 @@ fn timed_row_list(mut function: Function) -> Function {
         );
     }
     function
+}
+
+/// How many of each function the replay list has, and how much a record may be
+/// lent in one slice.
+const REPLAYED: usize = 75;
+const SMALL: usize = 128;
+
+/// The replay list: functions 15 and 16 of README.md's table.
+pub fn replay() -> String {
+    let mut list = Records::of(REPLAYED);
+    let mut sample = |number, need: Need, slices, owed: Owed| {
+        let first = kept_small().into_iter().map(|fill| Call {
+            lent: need(&fill).unwrap_or(vec![8; slices]),
+            fill,
+        });
+        list.sample(
+            number,
+            first.collect(),
+            |rng| make(rng, usize::MAX, need, slices),
+            |c| Some((given_words(c)?, owed_words(owed, c))),
+        );
+    };
+    sample(15, owed::tatami_need, 4, owed::tatami);
+    sample(16, owed::row_list_need, 5, owed::row_list);
+    list.text()
+}
+
+/// The fills that every list begins with: document 01's K1 to K6.
+fn kept_small() -> Vec<Fill> {
+    let change: [fn(&mut Fill); 6] = [
+        |_| (),
+        |f| f.bottom_up = true,
+        |f| f.len = 5.0,
+        |f| f.stagger = 2,
+        |f| f.inset = 3.5,
+        |f| f.inset = 4.0,
+    ];
+    let k = change.iter().map(|change| {
+        let mut fill = Fill::k1();
+        change(&mut fill);
+        fill
+    });
+    k.chain(fills::shapes()).collect()
+}
+
+/// A call's operands; nothing where the call is too large for a list or has a NaN.
+fn given_words(c: &Call) -> Option<Vec<u64>> {
+    let f = &c.fill;
+    let (corners, ends) = (&f.outline.corners, &f.outline.ends);
+    let small = corners.len() <= 24 && ends.len() <= 6 && c.lent.iter().all(|&n| n <= SMALL);
+    small.then_some(())?;
+    let mut words: Vec<u64> = c.lent.iter().map(|&n| n as u64).collect();
+    words.push(f.rule);
+    let settings = [f.spacing, f.len, f.inset, f.pull, f.cosine, f.sine];
+    words.extend(records::bits(&settings)?);
+    words.extend([f.stagger, f.bottom_up.into()]);
+    words.extend([corners.len() as u64, ends.len() as u64]);
+    words.extend(records::bits(corners)?);
+    words.extend(ends);
+    Some(words)
+}
+
+/// What a call owes: the number, the counts, and after DONE the front of each
+/// output that holds the answer.
+fn owed_words(owed: Owed, c: &Call) -> Vec<u64> {
+    let order = if owed::tied(&c.fill) {
+        Order::ByPlace
+    } else {
+        Order::Original
+    };
+    let left = owed(&c.fill, &c.lent, order);
+    let mut words = vec![left.answer];
+    words.extend(&left.counts);
+    for slice in &left.slices[2..] {
+        let old = fresh(slice.len() - 2 * MARGIN);
+        let changed = slice.iter().zip(&old).rposition(|(new, old)| new != old);
+        words.extend(&slice[MARGIN..changed.map_or(MARGIN, |last| last + 1)]);
+    }
+    words
 }

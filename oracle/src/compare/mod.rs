@@ -456,7 +456,7 @@ pub fn groups() -> Vec<Group> {
         Group {
             name: "fill",
             functions: fill::functions(),
-            replay: None,
+            replay: Some(fill::replay),
         },
     ]
 }

@@ -479,7 +479,7 @@ fn sizes() -> Vec<Fill> {
 }
 
 /// Heights about 1e-9, tied crossings, a crossing at -0, a row in a dropped edge.
-fn shapes() -> Vec<Fill> {
+pub fn shapes() -> Vec<Fill> {
     let mut list = Vec::new();
     for ulps in -2..=2 {
         let h = beside(1e-9, ulps);
