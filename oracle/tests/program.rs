@@ -322,6 +322,11 @@ fn each_end_of_what_is_lent() {
     assert_eq!(need(&floats_over)[0], LENT[0] + 2);
     assert_eq!(need(&points(4096))[2], LENT[2]);
     assert_eq!(need(&sections(512))[3], LENT[3]);
+    // As wide as coordinates go: 270 million points.
+    let wide = Fill {
+        len: 1.0,
+        ..Fill::new(&[block(-100_000.0, 0.0, 200_000.0, 4.0 * 1364.0)])
+    };
     let cases = [
         (rows(1364), 0),
         (rows(1365), 6),
@@ -333,6 +338,7 @@ fn each_end_of_what_is_lent() {
         (points(4097), 7),
         (sections(512), 0),
         (sections(513), 7),
+        (wide, 7),
         (rows(4096), 6),
         (rows(4097), 5),
     ];
