@@ -83,10 +83,24 @@ pub fn any(rng: &mut Rng) -> Fill {
 /// and sine some are refused, and seldom it has too many rows. Spacing and len
 /// go by the outline's size, so that most fills have few rows and points.
 pub fn sound(rng: &mut Rng) -> Fill {
-    let outline = match rng.below(20) {
-        0 => bricks(rng),
-        _ => outlines::sound(rng),
-    };
+    match rng.below(24) {
+        0 => measured(rng),
+        1 => {
+            let outline = bricks(rng);
+            around(rng, outline)
+        }
+        2 => {
+            let outline = hourglass(rng);
+            around(rng, outline)
+        }
+        _ => {
+            let outline = outlines::sound(rng);
+            around(rng, outline)
+        }
+    }
+}
+
+fn around(rng: &mut Rng, outline: Outline) -> Fill {
     let span = span(&outline).max(1.0);
     let (cosine, sine) = numbers::turn(rng);
     let spacing = spacing(rng, span);
@@ -101,13 +115,69 @@ pub fn sound(rng: &mut Rng) -> Fill {
         pull: shrink(rng),
         cosine,
         sine,
-        stagger: match rng.below(8) {
-            0 => rng.below(1001),
-            _ => rng.pick(&[0, 1, 2, 3, 4, 7, 1000]),
-        },
+        stagger: stagger(rng),
         bottom_up: rng.one_in(2),
         outline,
     }
+}
+
+fn stagger(rng: &mut Rng) -> u64 {
+    match rng.below(8) {
+        0 => rng.below(1001),
+        _ => rng.pick(&[0, 1, 2, 3, 4, 7, 1000]),
+    }
+}
+
+/// A leaning block whose rows, or the links between them, are a whole number of
+/// stitches long, give or take an ulp. The slope is a short binary fraction, so
+/// that row ends come out exact.
+fn measured(rng: &mut Rng) -> Fill {
+    let spacing = rng.pick(&[0.5, 1.0, 2.0, 4.0, 8.0]);
+    let fine = rng.pick(&[1, 1 << 33]);
+    let lean = rng.range(-64 * fine, 64 * fine) as f64 / (8 * fine) as f64;
+    let stitches = rng.range(1, 5) as f64;
+    let few = rng.range(-2, 2);
+    let (width, len) = if rng.one_in(2) {
+        let link = beside(P::new(lean, spacing).len() / stitches, few);
+        (rng.range(3, 40) as f64, clip(link, LEN))
+    } else {
+        let len = rng.range(10, 80) as f64 / 10.0;
+        (beside(stitches * len, few), len)
+    };
+    let rows = rng.range(1, 8) as f64;
+    let (x, y) = (rng.range(-9, 9) as f64, rng.range(-4, 4) as f64 * spacing);
+    let (far, low) = (x + lean * rows, y + spacing * rows);
+    Fill {
+        spacing,
+        len,
+        stagger: stagger(rng),
+        bottom_up: rng.one_in(2),
+        ..Fill::new(&[line(&[
+            (x, y),
+            (x + width, y),
+            (far + width, low),
+            (far, low),
+        ])])
+    }
+}
+
+/// Two fields with a waist about as wide as the narrowest piece that is kept:
+/// rows without a piece between rows that could be linked.
+fn hourglass(rng: &mut Rng) -> Outline {
+    let (w, h) = (rng.range(8, 60) as f64, rng.range(4, 60) as f64);
+    let waist = rng.range(1, 80) as f64 / 20.0;
+    let (left, right) = (w / 2.0 - waist, w / 2.0 + waist);
+    let long = rng.range(0, 6) as f64;
+    Outline::new(&[line(&[
+        (0.0, -h),
+        (w, -h),
+        (right, -long),
+        (right, long),
+        (w, h),
+        (0.0, h),
+        (left, long),
+        (left, -long),
+    ])])
 }
 
 /// Blocks in columns that touch, each at a height of its own, drawn in any
@@ -457,6 +527,18 @@ fn sizes() -> Vec<Fill> {
             }
         }
     }
+    // Away from zero, where the first and the last row are rounded.
+    for (top, bottom) in [
+        (3.1, 2050.75),
+        (3.1, 2051.25),
+        (-2050.75, -3.1),
+        (-2051.25, -3.1),
+    ] {
+        list.push(Fill {
+            spacing: 0.5,
+            ..Fill::new(&[block(0.0, top, 10.0, bottom - top)])
+        });
+    }
     // Turned by a right angle the width counts.
     for width in [2048.0, 2048.25] {
         list.push(Fill {
@@ -500,10 +582,41 @@ pub fn shapes() -> Vec<Fill> {
         });
     }
     let tiny = f64::from_bits(1);
-    let minus_zero = [(-0.0, -6.0), (-tiny, 2.0), (-20.0, 2.0), (-20.0, -6.0)];
-    list.push(Fill::new(&[line(&minus_zero)]));
+    let minus_zero = line(&[(-0.0, -6.0), (-tiny, 2.0), (-20.0, 2.0), (-20.0, -6.0)]);
+    list.push(Fill::new(&[minus_zero.clone()]));
+    // -0 comes before +0, whichever was drawn first.
+    let plus_zero = line(&[(0.0, 2.0), (0.0, -6.0), (20.0, -6.0), (20.0, 2.0)]);
+    for rings in [
+        [minus_zero.clone(), plus_zero.clone()],
+        [plus_zero, minus_zero],
+    ] {
+        list.push(Fill {
+            inset: 2.0,
+            ..Fill::new(&rings)
+        });
+    }
+    list.extend(links());
     list.push(bare_strip(f64::from_bits(0x3c91a62633145c07)));
     list.push(bare_strip(0.0));
+    list
+}
+
+/// Links one or two stitches long, give or take an ulp.
+fn links() -> Vec<Fill> {
+    let mut list = Vec::new();
+    // The second has a root and a `hypot` that differ.
+    for lean in [1.0, 91.0 / 64.0, 3.0, 7.25] {
+        let far = 5.0 * lean;
+        let ring = line(&[(0.0, 0.0), (30.0, 0.0), (30.0 + far, 20.0), (far, 20.0)]);
+        for stitches in [1.0, 2.0] {
+            for ulps in -1..=1 {
+                list.push(Fill {
+                    len: beside(P::new(lean, 4.0).len() / stitches, ulps),
+                    ..Fill::new(std::slice::from_ref(&ring))
+                });
+            }
+        }
+    }
     list
 }
 
