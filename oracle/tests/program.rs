@@ -23,7 +23,8 @@ use std::fs::File;
 use std::io::{Read, Seek, Write, stderr};
 use std::path::{Path, PathBuf};
 use std::process::{Child, Command, Stdio};
-use std::time::Duration;
+use std::thread::JoinHandle;
+use std::time::{Duration, Instant};
 use zigzag::geom::P;
 
 const K1: &str = "0 1 4
@@ -36,6 +37,9 @@ const LAYOUT: &str = "1 0 0\n";
 
 /// What the program lends: floats, wholes, two floats for a point, sections.
 const LENT: [usize; 4] = [8192, 8192, 2 * 4096, 512];
+
+/// No job takes the program as long as this.
+const PATIENCE: Duration = Duration::from_secs(60);
 
 /// Where a job's parts stand.
 const VERSION: usize = 4;
@@ -70,32 +74,56 @@ fn start(program: &Path, stdin: Stdio) -> Child {
     command.spawn().expect("the program doesn't start")
 }
 
-/// What the program printed; it may say nothing on the other stream, and no
-/// signal may end it.
-fn end(child: Child) -> String {
-    let output = child.wait_with_output().expect("the program doesn't end");
-    assert!(output.status.code().is_some(), "{}", output.status);
-    assert!(output.stderr.is_empty(), "{:?}", output.stderr);
-    String::from_utf8(output.stdout).expect("text")
+/// All that comes out of a stream, read beside other work.
+fn read_all(mut stream: impl Read + Send + 'static) -> JoinHandle<Vec<u8>> {
+    std::thread::spawn(move || {
+        let mut all = Vec::new();
+        stream.read_to_end(&mut all).expect("a stream that is read");
+        all
+    })
+}
+
+/// What the program printed; it may say nothing on the other stream, no signal
+/// may end it, and it may not take forever.
+fn end(mut child: Child) -> String {
+    let out = read_all(child.stdout.take().unwrap());
+    let other = read_all(child.stderr.take().unwrap());
+    let start = Instant::now();
+    let status = loop {
+        if let Some(status) = child.try_wait().expect("a program to wait for") {
+            break status;
+        }
+        if start.elapsed() > PATIENCE {
+            let _ = child.kill();
+            panic!("the program doesn't end");
+        }
+        std::thread::sleep(Duration::from_micros(200));
+    };
+    assert!(status.code().is_some(), "{status}");
+    assert_eq!(other.join().unwrap(), []);
+    String::from_utf8(out.join().unwrap()).expect("text")
 }
 
 /// Runs the program on some bytes, given in pieces with a pause behind each.
 fn run_in_pieces<'a>(
     program: &Path,
-    pieces: impl Iterator<Item = &'a [u8]>,
+    pieces: impl Iterator<Item = &'a [u8]> + Send,
     pause: Duration,
 ) -> String {
     let mut child = start(program, Stdio::piped());
     let mut stdin = child.stdin.take().unwrap();
-    for piece in pieces {
-        // A program that has read enough may end: what it printed counts.
-        if stdin.write_all(piece).and_then(|()| stdin.flush()).is_err() {
-            break;
-        }
-        std::thread::sleep(pause);
-    }
-    drop(stdin);
-    end(child)
+    std::thread::scope(|scope| {
+        scope.spawn(move || {
+            for piece in pieces {
+                // A program that has read enough may end: what it printed counts.
+                if stdin.write_all(piece).is_err() {
+                    break;
+                }
+                std::thread::sleep(pause);
+            }
+        });
+        end(child)
+    })
 }
 
 fn run(program: &Path, bytes: &[u8]) -> String {
