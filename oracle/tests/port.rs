@@ -16,7 +16,8 @@ mod owed;
 mod rng;
 
 use common::{block, line};
-use inputs::fills::{Fill, bare_strip};
+use inputs::boundaries::bare_strip;
+use inputs::fills::Fill;
 use zigzag::fill::{Piece, row_list, row_list_by_place, tatami, tatami_by_place};
 use zigzag::geom::{P, Polyline};
 

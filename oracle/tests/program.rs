@@ -15,6 +15,7 @@ mod owed;
 #[path = "../src/rng.rs"]
 mod rng;
 
+use inputs::boundaries::boundaries;
 use inputs::fills::{self, Fill};
 use inputs::outlines::{Outline, block};
 use owed::{MARGIN, Order};
@@ -274,7 +275,7 @@ fn k1_is_printed_as_document_01_has_it() {
 fn each_boundary_of_each_refusal() {
     let Some(program) = program() else { return };
     let mut met = [0; 8];
-    for fill in fills::boundaries() {
+    for fill in boundaries() {
         if let Some(bytes) = job(fill) {
             met[check(&program, &bytes) as usize] += 1;
         }

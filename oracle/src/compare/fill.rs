@@ -3,8 +3,9 @@
 use super::records::{self, Records};
 use super::{Function, Operands, Outcome, Tie, list, simplicity};
 use crate::expect::DONE;
+use crate::inputs::boundaries::{boundaries, shapes};
 use crate::inputs::crests;
-use crate::inputs::fills::{self, Fill, boundaries, lend, ways};
+use crate::inputs::fills::{self, Fill, lend, ways};
 use crate::ours::fill as ours;
 use crate::owed::{self, Left, MARGIN, MARK, Order, fresh};
 use crate::rng::Rng;
@@ -352,7 +353,7 @@ fn kept_small() -> Vec<Fill> {
         change(&mut fill);
         fill
     });
-    k.chain(fills::shapes()).collect()
+    k.chain(shapes()).collect()
 }
 
 /// A call's operands; nothing where the call is too large for a list or has a NaN.
