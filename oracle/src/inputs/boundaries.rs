@@ -82,12 +82,14 @@ fn settings() -> Vec<Fill> {
                 ..base.clone()
             });
         }
-        for rule in [1, 2, 1 << 32, u64::MAX] {
-            list.push(Fill {
-                rule,
-                ..base.clone()
-            });
-        }
+    }
+    // A field drawn twice over in its middle, which the rules tell apart.
+    let twice = [block(0.0, 0.0, 40.0, 40.0), block(10.0, 10.0, 20.0, 20.0)];
+    for rule in [0, 1, 2, 1 << 32, u64::MAX] {
+        list.push(Fill {
+            rule,
+            ..Fill::new(&twice)
+        });
     }
     list
 }
