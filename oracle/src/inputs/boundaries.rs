@@ -309,15 +309,20 @@ pub fn shapes() -> Vec<Fill> {
 
 /// Links one or two stitches long, give or take an ulp.
 fn links() -> Vec<Fill> {
+    // The second has a root and a `hypot` that differ; with the others behind
+    // it, the root's square is less than the sum that it is the root of.
+    let root = |lean: f64| P::new(lean, 4.0).len();
+    let short = |lean: &f64| root(*lean) * root(*lean) < lean * lean + 16.0;
+    let mut leans = vec![3.0, 91.0 / 64.0];
+    leans.extend((1..1000).map(|k| f64::from(k) / 64.0).filter(short).take(4));
     let mut list = Vec::new();
-    // The second has a root and a `hypot` that differ.
-    for lean in [1.0, 91.0 / 64.0, 3.0, 7.25] {
+    for lean in leans {
         let far = 5.0 * lean;
         let ring = line(&[(0.0, 0.0), (30.0, 0.0), (30.0 + far, 20.0), (far, 20.0)]);
         for stitches in [1.0, 2.0] {
             for ulps in -1..=1 {
                 list.push(Fill {
-                    len: beside(P::new(lean, 4.0).len() / stitches, ulps),
+                    len: beside(root(lean) / stitches, ulps),
                     ..Fill::new(std::slice::from_ref(&ring))
                 });
             }
