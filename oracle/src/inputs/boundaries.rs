@@ -20,6 +20,7 @@ pub fn boundaries() -> &'static [Fill] {
         list.extend(coordinates());
         list.extend(sizes());
         list.extend(shapes());
+        list.extend(links());
         list.extend(two_faults());
         let up: Vec<Fill> = list
             .iter()
@@ -301,7 +302,6 @@ pub fn shapes() -> Vec<Fill> {
             ..Fill::new(&rings)
         });
     }
-    list.extend(links());
     list.push(bare_strip(f64::from_bits(0x3c91a62633145c07)));
     list.push(bare_strip(0.0));
     list
