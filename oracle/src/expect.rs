@@ -14,6 +14,8 @@ mod limits {
     pub const LAYOUT: u64 = 1;
     pub const SETTING: u64 = 3;
     pub const TURN: u64 = 4;
+    pub const SIZE: u64 = 5;
+    pub const WORK: u64 = 6;
     pub const ROOM: u64 = 7;
 
     pub const RINGS: usize = 255;
@@ -22,6 +24,10 @@ mod limits {
     pub const STEP: RangeInclusive<f64> = 0.5..=1000.0;
     pub const LEN: RangeInclusive<f64> = 1.0..=1000.0;
     pub const PASSES: RangeInclusive<u64> = 0..=64;
+    pub const SPACING: RangeInclusive<f64> = 0.5..=1000.0;
+    pub const SHRINK: RangeInclusive<f64> = -100.0..=100.0; // inset and pull
+    pub const STAGGER: RangeInclusive<u64> = 0..=1000;
+    pub const ROWS: i64 = 4096;
 
     /// The number of the first check that doesn't hold, in the table's order.
     pub fn first(checks: &[(u64, bool)]) -> u64 {

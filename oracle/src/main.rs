@@ -4,6 +4,7 @@ mod compare;
 mod expect;
 mod inputs;
 mod ours;
+mod owed;
 mod rng;
 
 use compare::{Function, Group, Job, groups};
@@ -29,12 +30,13 @@ fn main() -> ExitCode {
 /// Whether all was equal, or what was wrong with the command.
 fn run(words: &[String]) -> Result<bool, String> {
     let seed = option(words, "--seed")?.unwrap_or(1);
-    let count = option(words, "--count")?.unwrap_or(100_000);
+    let count = option(words, "--count")?;
     let name = words.get(1).filter(|w| !w.starts_with("--"));
     match (words.first().map(String::as_str), name) {
         (Some("compare"), Some(name)) => {
             let mut equal = true;
             for function in named(name)? {
+                let count = count.unwrap_or(function.usual);
                 equal &= function.compare(&Job { seed, count });
             }
             Ok(equal)

@@ -326,3 +326,149 @@ pub mod stroke {
         }
     }
 }
+
+/// The fill.
+pub mod fill {
+    use crate::inputs::fills::Fill;
+
+    unsafe extern "C" {
+        fn beahcerot_tatami(
+            corners: *const f64,
+            corners_len: usize,
+            ends: *const u64,
+            ends_len: usize,
+            rule: u64,
+            spacing: f64,
+            len: f64,
+            inset: f64,
+            pull: f64,
+            cosine: f64,
+            sine: f64,
+            stagger: u64,
+            bottom_up: bool,
+            floats: *mut f64,
+            floats_len: usize,
+            wholes: *mut u64,
+            wholes_len: usize,
+            points: *mut f64,
+            points_len: usize,
+            section_ends: *mut u64,
+            section_ends_len: usize,
+            sections: *mut u64,
+            count: *mut u64,
+        ) -> u64;
+        fn beahcerot_row_list(
+            corners: *const f64,
+            corners_len: usize,
+            ends: *const u64,
+            ends_len: usize,
+            rule: u64,
+            spacing: f64,
+            len: f64,
+            inset: f64,
+            pull: f64,
+            cosine: f64,
+            sine: f64,
+            stagger: u64,
+            bottom_up: bool,
+            floats: *mut f64,
+            floats_len: usize,
+            wholes: *mut u64,
+            wholes_len: usize,
+            ys: *mut f64,
+            ys_len: usize,
+            rows: *mut i64,
+            rows_len: usize,
+            section_numbers: *mut u64,
+            section_numbers_len: usize,
+            pieces: *mut u64,
+        ) -> u64;
+    }
+
+    /// What a fill is lent to work in.
+    pub struct Work<'a> {
+        pub floats: &'a mut [f64],
+        pub wholes: &'a mut [u64],
+    }
+
+    /// Where `tatami` puts its answer: x and y of each point, and how many
+    /// points there are up to the end of each section.
+    pub struct Sewn<'a> {
+        pub points: &'a mut [f64],
+        pub section_ends: &'a mut [u64],
+        pub sections: &'a mut u64,
+        pub count: &'a mut u64,
+    }
+
+    /// Where `row_list` puts its answer: y, xa and xb of each piece, its row and
+    /// its section.
+    pub struct Listed<'a> {
+        pub ys: &'a mut [f64],
+        pub rows: &'a mut [i64],
+        pub section_numbers: &'a mut [u64],
+        pub pieces: &'a mut u64,
+    }
+
+    pub fn tatami(f: &Fill, work: Work, out: Sewn) -> u64 {
+        let (c, e) = (&f.outline.corners, &f.outline.ends);
+        unsafe {
+            beahcerot_tatami(
+                c.as_ptr(),
+                c.len(),
+                e.as_ptr(),
+                e.len(),
+                f.rule,
+                f.spacing,
+                f.len,
+                f.inset,
+                f.pull,
+                f.cosine,
+                f.sine,
+                f.stagger,
+                f.bottom_up,
+                work.floats.as_mut_ptr(),
+                work.floats.len(),
+                work.wholes.as_mut_ptr(),
+                work.wholes.len(),
+                out.points.as_mut_ptr(),
+                out.points.len(),
+                out.section_ends.as_mut_ptr(),
+                out.section_ends.len(),
+                out.sections,
+                out.count,
+            )
+        }
+    }
+
+    pub fn row_list(f: &Fill, work: Work, out: Listed) -> u64 {
+        let (c, e) = (&f.outline.corners, &f.outline.ends);
+        unsafe {
+            beahcerot_row_list(
+                c.as_ptr(),
+                c.len(),
+                e.as_ptr(),
+                e.len(),
+                f.rule,
+                f.spacing,
+                f.len,
+                f.inset,
+                f.pull,
+                f.cosine,
+                f.sine,
+                f.stagger,
+                f.bottom_up,
+                work.floats.as_mut_ptr(),
+                work.floats.len(),
+                work.wholes.as_mut_ptr(),
+                work.wholes.len(),
+                out.ys.as_mut_ptr(),
+                out.ys.len(),
+                out.rows.as_mut_ptr(),
+                out.rows.len(),
+                out.section_numbers.as_mut_ptr(),
+                out.section_numbers.len(),
+                out.pieces,
+            )
+        }
+    }
+}

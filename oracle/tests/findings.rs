@@ -1,34 +1,11 @@
 //! docs/FINDINGS.md, run on the completed original: each finding with its
 //! smallest input. It needs no archive.
 
+mod common;
+
+use common::{block, line, settings};
 use zigzag::fill::{FillParams, Piece, row_list, row_list_by_place, tatami, ties};
 use zigzag::geom::{FillRule, P, Polyline};
-
-fn line(points: &[(f64, f64)]) -> Polyline {
-    points.iter().map(|&(x, y)| P::new(x, y)).collect()
-}
-
-fn block(x: f64, y: f64, width: f64, height: f64) -> Polyline {
-    line(&[
-        (x, y),
-        (x + width, y),
-        (x + width, y + height),
-        (x, y + height),
-    ])
-}
-
-fn settings() -> FillParams {
-    FillParams {
-        c: 1.0,
-        s: 0.0,
-        spacing: 4.0,
-        len: 10.0,
-        inset: 0.0,
-        pull: 0.0,
-        stagger: 1,
-        bottom_up: false,
-    }
-}
 
 fn spans(pieces: &[Piece]) -> Vec<(i64, f64, f64)> {
     pieces.iter().map(|p| (p.k, p.xa, p.xb)).collect()

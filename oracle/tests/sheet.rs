@@ -1,35 +1,17 @@
 //! Document 01's sheet of checks, run on the completed original: it says that
 //! what the comparison takes for right is what the sheet takes for right.
 
+mod common;
+
+use common::{block, line, settings};
 use zigzag::fill::{FillParams, Piece, row_list, row_list_by_place, tatami, tatami_by_place, ties};
 use zigzag::geom::{FillRule, P, Polyline, point_inside};
 use zigzag::patterns::{bounds, cross_stitch};
 use zigzag::satin::{Rails, pairs, s_stitch};
 use zigzag::stroke::running;
 
-fn line(points: &[(f64, f64)]) -> Polyline {
-    points.iter().map(|&(x, y)| P::new(x, y)).collect()
-}
-
-fn square(x: f64, y: f64, side: f64) -> Polyline {
-    line(&[(x, y), (x + side, y), (x + side, y + side), (x, y + side)])
-}
-
 fn q() -> Vec<Polyline> {
-    vec![square(0.0, 0.0, 10.0)]
-}
-
-fn settings() -> FillParams {
-    FillParams {
-        c: 1.0,
-        s: 0.0,
-        spacing: 4.0,
-        len: 10.0,
-        inset: 0.0,
-        pull: 0.0,
-        stagger: 1,
-        bottom_up: false,
-    }
+    vec![block(0.0, 0.0, 10.0, 10.0)]
 }
 
 fn fill(p: FillParams) -> Vec<Polyline> {
@@ -133,8 +115,8 @@ fn touching_squares_are_ties_by_place() {
         inset: 2.0,
         ..settings()
     };
-    let left = square(0.0, 0.0, 10.0);
-    let right = square(10.0, 0.0, 10.0);
+    let left = block(0.0, 0.0, 10.0, 10.0);
+    let right = block(10.0, 0.0, 10.0, 10.0);
     let ends = |rings: &[Polyline]| -> Vec<(f64, f64)> {
         let list = row_list_by_place(rings, FillRule::NonZero, &p);
         list.iter()

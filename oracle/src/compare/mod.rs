@@ -2,6 +2,7 @@
 //! report differences, one way to time. A group is a file with a list of
 //! functions; see README.md for how to add one.
 
+pub mod fill;
 pub mod geom;
 pub mod leaves;
 mod records;
@@ -40,11 +41,21 @@ pub struct Job {
     pub count: u64,
 }
 
+/// How many calls are compared where no other count is asked for.
+const USUAL: u64 = 100_000;
+
 /// A function that stands on both sides.
 pub struct Function {
     pub name: &'static str,
+    pub usual: u64,
     compare: Box<dyn Fn(&Job) -> Report>,
-    bench: Option<Box<dyn Fn(&mut Rng) -> Timing>>,
+    benches: Vec<Bench>,
+}
+
+/// What to time: its label, and the timing of inputs drawn from a random source.
+struct Bench {
+    label: String,
+    run: Box<dyn Fn(&mut Rng) -> Timing>,
 }
 
 /// A named tie: the calls that the Rust leaves open, and what document 01 says there.
@@ -88,22 +99,43 @@ impl Function {
         };
         Function {
             name,
+            usual: USUAL,
             compare: Box::new(compare),
-            bench: None,
+            benches: Vec::new(),
         }
+    }
+
+    /// Another count than the usual one, for calls that take longer.
+    pub fn usually(mut self, count: u64) -> Function {
+        self.usual = count;
+        self
     }
 
     /// What to time: inputs from `make`, and the two sides bare of any harness.
     pub fn timed<I, A, B>(
-        mut self,
+        self,
         make: impl Fn(&mut Rng) -> I + 'static,
         rust: impl Fn(&I) -> A + 'static,
         ours: impl Fn(&I) -> B + 'static,
     ) -> Function {
-        self.bench = Some(Box::new(move |rng: &mut Rng| {
-            let inputs: Vec<I> = (0..1000).map(|_| make(rng)).collect();
-            time(&inputs, &rust, &ours)
-        }));
+        let label = self.name.to_string();
+        let many = move |rng: &mut Rng| (0..1000).map(|_| make(rng)).collect();
+        self.timed_on(label, many, rust, ours)
+    }
+
+    /// The same on a list of inputs, under a label: a function may have several.
+    pub fn timed_on<I, A, B>(
+        mut self,
+        label: String,
+        inputs: impl Fn(&mut Rng) -> Vec<I> + 'static,
+        rust: impl Fn(&I) -> A + 'static,
+        ours: impl Fn(&I) -> B + 'static,
+    ) -> Function {
+        let run = move |rng: &mut Rng| time(&inputs(rng), &rust, &ours);
+        self.benches.push(Bench {
+            label,
+            run: Box::new(run),
+        });
         self
     }
 
@@ -116,11 +148,11 @@ impl Function {
     }
 
     pub fn bench(&self, seed: u64) {
-        if let Some(bench) = &self.bench {
-            let t = bench(&mut Rng::new(seed, self.name));
-            let (name, ours, rust) = (self.name, t.ours, t.rust);
+        for bench in &self.benches {
+            let t = (bench.run)(&mut Rng::new(seed, self.name));
+            let (label, ours, rust) = (&bench.label, t.ours, t.rust);
             println!(
-                "{name:<22} ours {ours:10.2} ns   Rust {rust:10.2} ns   ratio {:7.3}",
+                "{label:<38} ours {ours:13.2} ns   Rust {rust:13.2} ns   ratio {:7.3}",
                 ours / rust
             );
         }
@@ -240,7 +272,7 @@ fn time<I, A, B>(inputs: &[I], rust: impl Fn(&I) -> A, ours: impl Fn(&I) -> B) -
 /// How often to go over the inputs so that a round takes some milliseconds.
 fn repeats<I, T>(inputs: &[I], f: &impl Fn(&I) -> T) -> usize {
     let once = round(inputs, f, 1) * inputs.len() as f64;
-    (3e6 / once).clamp(1.0, 1000.0) as usize
+    (3e6 / once).clamp(1.0, 1e6 / inputs.len() as f64) as usize
 }
 
 fn round<I, T>(inputs: &[I], f: &impl Fn(&I) -> T, times: usize) -> f64 {
@@ -420,6 +452,11 @@ pub fn groups() -> Vec<Group> {
             name: "stroke",
             functions: stroke::functions(),
             replay: Some(stroke::replay),
+        },
+        Group {
+            name: "fill",
+            functions: fill::functions(),
+            replay: Some(fill::replay),
         },
     ]
 }

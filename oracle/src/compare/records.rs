@@ -5,21 +5,36 @@ use crate::expect::DONE;
 use crate::rng::Rng;
 use std::collections::{BTreeMap, BTreeSet};
 
-/// How many records of a function, and how many of each refusal among those
-/// that are drawn.
+/// How many records of a function where nothing else is said, and how many of
+/// each refusal among those that are drawn.
 const EACH: usize = 40;
 const REFUSED: usize = 4;
 
 /// A call: its operands, and what it owes, which begins with document 01's number.
 pub type Record = (Vec<u64>, Vec<u64>);
 
-#[derive(Default)]
 pub struct Records {
+    each: usize,
     text: String,
     seen: BTreeSet<String>,
 }
 
+impl Default for Records {
+    fn default() -> Records {
+        Records::of(EACH)
+    }
+}
+
 impl Records {
+    /// A list with so many records of each function.
+    pub fn of(each: usize) -> Records {
+        Records {
+            each,
+            text: String::new(),
+            seen: BTreeSet::new(),
+        }
+    }
+
     pub fn text(self) -> String {
         self.text
     }
@@ -42,14 +57,19 @@ impl Records {
         for _ in 0..5_000 {
             if let Some(record) = words(&make(&mut rng)) {
                 let same = by_answer.entry(record.1[0]).or_default();
-                if same.len() < if record.1[0] == DONE { EACH } else { REFUSED } {
+                let most = if record.1[0] == DONE {
+                    self.each
+                } else {
+                    REFUSED
+                };
+                if same.len() < most {
                     same.push(record);
                 }
             }
         }
         let done = by_answer.remove(&DONE).unwrap_or_default();
         for record in by_answer.into_values().flatten().chain(done) {
-            if kept < EACH {
+            if kept < self.each {
                 kept += usize::from(self.line(function, &record));
             }
         }

@@ -1,5 +1,8 @@
 //! What the calls are made of.
 
+pub mod boundaries;
+pub mod crests;
+pub mod fills;
 pub mod lines;
 pub mod numbers;
 pub mod outlines;

@@ -71,7 +71,12 @@ pub fn traced(rng: &mut Rng, rings: usize, corners: usize) -> Outline {
 
 /// An outline that may be damaged in its layout, in its numbers, or in both.
 pub fn any(rng: &mut Rng) -> Outline {
-    let mut outline = sound(rng);
+    let outline = sound(rng);
+    damaged(rng, outline)
+}
+
+/// An outline, one in six damaged.
+pub fn damaged(rng: &mut Rng, mut outline: Outline) -> Outline {
     if rng.one_in(12) {
         spoil_number(rng, &mut outline);
     }
@@ -133,11 +138,11 @@ fn length(rng: &mut Rng) -> f64 {
     }
 }
 
-fn line(list: &[(f64, f64)]) -> Polyline {
+pub fn line(list: &[(f64, f64)]) -> Polyline {
     list.iter().map(|&(x, y)| P::new(x, y)).collect()
 }
 
-fn block(x: f64, y: f64, w: f64, h: f64) -> Polyline {
+pub fn block(x: f64, y: f64, w: f64, h: f64) -> Polyline {
     line(&[(x, y), (x + w, y), (x + w, y + h), (x, y + h)])
 }
 

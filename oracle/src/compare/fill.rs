@@ -1,0 +1,393 @@
+//! The fill: `tatami` and the row list.
+
+use super::records::{self, Records};
+use super::{Function, Operands, Outcome, Tie, list, simplicity};
+use crate::expect::DONE;
+use crate::inputs::boundaries::{boundaries, shapes};
+use crate::inputs::crests;
+use crate::inputs::fills::{self, Fill, lend, ways};
+use crate::ours::fill as ours;
+use crate::owed::{self, Left, MARGIN, MARK, Order, fresh};
+use crate::rng::Rng;
+use std::cell::RefCell;
+use zigzag::fill::{FillParams, row_list, tatami};
+use zigzag::geom::{FillRule, Polyline};
+
+const EQUAL_CROSSINGS: &str = "equal crossings";
+
+pub fn functions() -> Vec<Function> {
+    let sew = function("tatami", owed::tatami_need, 4, owed::tatami, tatami_left);
+    let list = function(
+        "row_list",
+        owed::row_list_need,
+        5,
+        owed::row_list,
+        row_list_left,
+    );
+    vec![timed_tatami(sew), timed_row_list(list)]
+}
+
+/// A fill, and how many words it is lent in each slice: floats, wholes, outputs.
+struct Call {
+    fill: Fill,
+    lent: Vec<usize>,
+}
+
+impl Operands for Call {
+    fn size(&self) -> (usize, u64) {
+        let f = &self.fill;
+        let numbers = [f.spacing, f.len, f.inset, f.pull, f.cosine, f.sine];
+        let all = f.outline.corners.iter().chain(&numbers);
+        (
+            f.outline.corners.len() / 2 + f.outline.ends.len(),
+            all.copied().map(simplicity).sum::<u64>() + f.stagger.min(1000),
+        )
+    }
+    fn show(&self) -> String {
+        let f = &self.fill;
+        format!(
+            "corners {} ends {:x?} rule {:x} spacing, len, inset, pull, cosine, sine {} stagger {:x} bottom_up {} lent {:?}",
+            list(&f.outline.corners),
+            f.outline.ends,
+            f.rule,
+            list(&[f.spacing, f.len, f.inset, f.pull, f.cosine, f.sine]),
+            f.stagger,
+            f.bottom_up,
+            self.lent
+        )
+    }
+}
+
+impl Outcome for Left {
+    fn same(&self, other: &Self) -> bool {
+        self == other
+    }
+    fn show(&self) -> String {
+        let slices: Vec<String> = self.slices.iter().map(|s| show_slice(s)).collect();
+        format!(
+            "answer {} counts {:x?} {}",
+            self.answer,
+            self.counts,
+            slices.join(" ")
+        )
+    }
+    fn answer(&self) -> Option<u64> {
+        Some(self.answer)
+    }
+}
+
+/// A lent slice with its margin, `=` for a word that stands as it was, a run of
+/// equal words as one.
+fn show_slice(slice: &[u64]) -> String {
+    let word = |(i, &w): (usize, &u64)| {
+        if w == MARK + i as u64 {
+            "=".to_string()
+        } else {
+            format!("{w:x}")
+        }
+    };
+    let words: Vec<String> = slice.iter().enumerate().map(word).collect();
+    let runs = words.chunk_by(|a, b| a == b).map(|run| match run.len() {
+        1 => run[0].clone(),
+        n => format!("{}*{n}", run[0]),
+    });
+    format!("[{}]", runs.collect::<Vec<_>>().join(" "))
+}
+
+type Need = fn(&Fill) -> Option<Vec<usize>>;
+type Owed = fn(&Fill, &[usize], Order) -> Left;
+
+fn function(
+    name: &'static str,
+    need: Need,
+    slices: usize,
+    owed: Owed,
+    ours: fn(&Fill, &[usize]) -> Left,
+) -> Function {
+    let tie = move |c: &Call| -> Tie<Left> {
+        owed::tied(&c.fill).then(|| (EQUAL_CROSSINGS, owed(&c.fill, &c.lent, Order::ByPlace)))
+    };
+    Function::new(
+        name,
+        move |rng, n| make(rng, n as usize, need, slices),
+        move |c: &Call| owed(&c.fill, &c.lent, Order::Original),
+        move |c: &Call| ours(&c.fill, &c.lent),
+        tie,
+    )
+    .usually(20_000)
+}
+
+/// The boundaries first, each lent in every way, and then any fill.
+fn make(rng: &mut Rng, call: usize, need: Need, slices: usize) -> Call {
+    let ways = ways(slices);
+    let (fill, way) = match boundaries().get(call / ways) {
+        Some(fill) => (fill.clone(), call % ways),
+        // The first three ways are enough for every call.
+        None if rng.one_in(2) => (fills::any(rng), rng.index(3)),
+        None => (fills::any(rng), rng.index(ways)),
+    };
+    // A call that is refused anyway is lent some words to leave alone.
+    let refused = || (5..5 + slices).collect();
+    let mut lent = lend(way, &need(&fill).unwrap_or_else(refused));
+    if way == 1 {
+        lent.iter_mut().for_each(|n| *n += rng.index(40));
+    }
+    Call { fill, lent }
+}
+
+/// Slices as they are lent, of the one kind and of the other.
+fn floats(words: usize) -> Vec<f64> {
+    fresh(words).into_iter().map(f64::from_bits).collect()
+}
+
+fn signed(words: usize) -> Vec<i64> {
+    fresh(words).into_iter().map(|w| w as i64).collect()
+}
+
+fn lent<T>(slice: &mut [T]) -> &mut [T] {
+    let behind = slice.len() - MARGIN;
+    &mut slice[MARGIN..behind]
+}
+
+fn bits(slice: Vec<f64>) -> Vec<u64> {
+    slice.into_iter().map(f64::to_bits).collect()
+}
+
+/// What our `tatami` leaves.
+fn tatami_left(f: &Fill, words: &[usize]) -> Left {
+    let (mut work, mut wholes) = (floats(words[0]), fresh(words[1]));
+    let (mut points, mut ends) = (floats(words[2]), fresh(words[3]));
+    let mut counts = vec![MARK; 2];
+    let [sections, count] = &mut counts[..] else {
+        unreachable!("two counts")
+    };
+    let answer = ours::tatami(
+        f,
+        ours::Work {
+            floats: lent(&mut work),
+            wholes: lent(&mut wholes),
+        },
+        ours::Sewn {
+            points: lent(&mut points),
+            section_ends: lent(&mut ends),
+            sections,
+            count,
+        },
+    );
+    Left {
+        answer,
+        counts,
+        slices: vec![bits(work), wholes, bits(points), ends],
+    }
+}
+
+/// What our row list leaves.
+fn row_list_left(f: &Fill, words: &[usize]) -> Left {
+    let (mut work, mut wholes) = (floats(words[0]), fresh(words[1]));
+    let (mut ys, mut rows, mut numbers) = (floats(words[2]), signed(words[3]), fresh(words[4]));
+    let mut counts = vec![MARK];
+    let answer = ours::row_list(
+        f,
+        ours::Work {
+            floats: lent(&mut work),
+            wholes: lent(&mut wholes),
+        },
+        ours::Listed {
+            ys: lent(&mut ys),
+            rows: lent(&mut rows),
+            section_numbers: lent(&mut numbers),
+            pieces: &mut counts[0],
+        },
+    );
+    let rows = rows.into_iter().map(|k| k as u64).collect();
+    Left {
+        answer,
+        counts,
+        slices: vec![bits(work), wholes, bits(ys), rows, numbers],
+    }
+}
+
+/// A fill in both forms, and its slices, lent again and again as a caller
+/// would, each as long as the need: the Rust makes new lists for each call.
+struct Timed {
+    fill: Fill,
+    rings: Vec<Polyline>,
+    rule: FillRule,
+    params: FillParams,
+    slices: RefCell<Slices>,
+}
+
+struct Slices {
+    floats: Vec<f64>,
+    wholes: Vec<u64>,
+    points: Vec<f64>,
+    numbers: Vec<u64>,
+    rows: Vec<i64>,
+}
+
+impl Timed {
+    fn new(fill: &Fill, need: Need) -> Timed {
+        let need = need(fill).expect("a fill to be timed is refused");
+        Timed {
+            rings: fill.outline.rings(),
+            rule: fill.rule(),
+            params: fill.params(),
+            slices: RefCell::new(Slices {
+                floats: vec![0.0; need[0]],
+                wholes: vec![0; need[1]],
+                points: vec![0.0; need[2]],
+                numbers: vec![0; need[3]],
+                rows: vec![0; need[3]],
+            }),
+            fill: fill.clone(),
+        }
+    }
+
+    fn tatami(&self) -> (u64, u64) {
+        let s = &mut *self.slices.borrow_mut();
+        let (mut sections, mut count) = (0, 0);
+        let work = ours::Work {
+            floats: &mut s.floats,
+            wholes: &mut s.wholes,
+        };
+        let out = ours::Sewn {
+            points: &mut s.points,
+            section_ends: &mut s.numbers,
+            sections: &mut sections,
+            count: &mut count,
+        };
+        assert_eq!(ours::tatami(&self.fill, work, out), DONE);
+        (sections, count)
+    }
+
+    fn row_list(&self) -> u64 {
+        let s = &mut *self.slices.borrow_mut();
+        let mut pieces = 0;
+        let work = ours::Work {
+            floats: &mut s.floats,
+            wholes: &mut s.wholes,
+        };
+        let out = ours::Listed {
+            ys: &mut s.points,
+            rows: &mut s.rows,
+            section_numbers: &mut s.numbers,
+            pieces: &mut pieces,
+        };
+        assert_eq!(ours::row_list(&self.fill, work, out), DONE);
+        pieces
+    }
+}
+
+fn timed_tatami(mut function: Function) -> Function {
+    let mut cases: Vec<(String, Fill)> = Vec::new();
+    cases.extend(crests::named().into_iter().map(|(n, f)| (n.into(), f)));
+    let corners = crests::by_corners().into_iter();
+    cases.extend(corners.map(|(n, f)| (format!("100 rows, {n} corners"), f)));
+    let rows = crests::by_rows().into_iter();
+    cases.extend(rows.map(|(n, f)| (format!("40 corners, {n} rows"), f)));
+    for (name, fill) in cases {
+        function = function.timed_on(
+            format!("tatami {name}"),
+            move |_| vec![Timed::new(&fill, owed::tatami_need)],
+            |t| tatami(&t.rings, t.rule, &t.params),
+            Timed::tatami,
+        );
+    }
+    function
+}
+
+fn timed_row_list(mut function: Function) -> Function {
+    for (name, fill) in crests::named() {
+        function = function.timed_on(
+            format!("row_list {name}"),
+            move |_| vec![Timed::new(&fill, owed::row_list_need)],
+            |t| row_list(&t.rings, t.rule, &t.params),
+            Timed::row_list,
+        );
+    }
+    function
+}
+
+/// How many of each function the replay list has, and how much a record may be
+/// lent in one slice.
+const REPLAYED: usize = 75;
+const SMALL: usize = 128;
+
+/// The replay list: functions 15 and 16 of README.md's table.
+pub fn replay() -> String {
+    let mut list = Records::of(REPLAYED);
+    let mut sample = |number, need: Need, slices, owed: Owed| {
+        let first = kept_small().into_iter().map(|fill| Call {
+            lent: need(&fill).unwrap_or(vec![8; slices]),
+            fill,
+        });
+        list.sample(
+            number,
+            first.collect(),
+            |rng| make(rng, usize::MAX, need, slices),
+            |c| {
+                let owed = owed_words(owed, c);
+                // Of the fills with no piece only those of four corners.
+                let bare = owed.starts_with(&[DONE, 0]) && c.fill.outline.corners.len() != 8;
+                (!bare).then_some((given_words(c)?, owed))
+            },
+        );
+    };
+    sample(15, owed::tatami_need, 4, owed::tatami);
+    sample(16, owed::row_list_need, 5, owed::row_list);
+    list.text()
+}
+
+/// The fills that every list begins with: document 01's K1 to K6.
+fn kept_small() -> Vec<Fill> {
+    let change: [fn(&mut Fill); 6] = [
+        |_| (),
+        |f| f.bottom_up = true,
+        |f| f.len = 5.0,
+        |f| f.stagger = 2,
+        |f| f.inset = 3.5,
+        |f| f.inset = 4.0,
+    ];
+    let k = change.iter().map(|change| {
+        let mut fill = Fill::k1();
+        change(&mut fill);
+        fill
+    });
+    k.chain(shapes()).collect()
+}
+
+/// A call's operands; nothing where the call is too large for a list or has a NaN.
+fn given_words(c: &Call) -> Option<Vec<u64>> {
+    let f = &c.fill;
+    let (corners, ends) = (&f.outline.corners, &f.outline.ends);
+    let small = corners.len() <= 24 && ends.len() <= 6 && c.lent.iter().all(|&n| n <= SMALL);
+    small.then_some(())?;
+    let mut words: Vec<u64> = c.lent.iter().map(|&n| n as u64).collect();
+    words.push(f.rule);
+    let settings = [f.spacing, f.len, f.inset, f.pull, f.cosine, f.sine];
+    words.extend(records::bits(&settings)?);
+    words.extend([f.stagger, f.bottom_up.into()]);
+    words.extend([corners.len() as u64, ends.len() as u64]);
+    words.extend(records::bits(corners)?);
+    words.extend(ends);
+    Some(words)
+}
+
+/// What a call owes: the number, the counts, and after DONE the front of each
+/// output that holds the answer.
+fn owed_words(owed: Owed, c: &Call) -> Vec<u64> {
+    let order = if owed::tied(&c.fill) {
+        Order::ByPlace
+    } else {
+        Order::Original
+    };
+    let left = owed(&c.fill, &c.lent, order);
+    let mut words = vec![left.answer];
+    words.extend(&left.counts);
+    for slice in &left.slices[2..] {
+        let old = fresh(slice.len() - 2 * MARGIN);
+        let changed = slice.iter().zip(&old).rposition(|(new, old)| new != old);
+        words.extend(&slice[MARGIN..changed.map_or(MARGIN, |last| last + 1)]);
+    }
+    words
+}

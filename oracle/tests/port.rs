@@ -1,0 +1,185 @@
+//! Findings of docs/FINDINGS.md through the proved library's entries, beside
+//! the original: what each does with the input. It needs the archive.
+
+// The driver's modules are read here as a test's own; it doesn't use all of them.
+#![allow(dead_code)]
+mod common;
+#[path = "../src/expect.rs"]
+mod expect;
+#[path = "../src/inputs/mod.rs"]
+mod inputs;
+#[path = "../src/ours.rs"]
+mod ours;
+#[path = "../src/owed.rs"]
+mod owed;
+#[path = "../src/rng.rs"]
+mod rng;
+
+use common::{block, line};
+use inputs::boundaries::bare_strip;
+use inputs::fills::Fill;
+use zigzag::fill::{Piece, row_list, row_list_by_place, tatami, tatami_by_place};
+use zigzag::geom::{P, Polyline};
+
+/// cos(π/2) as f64 has it.
+const QUARTER: f64 = f64::from_bits(0x3c91a62633145c07);
+
+fn port_row_list(f: &Fill) -> Vec<Piece> {
+    let need = owed::row_list_need(f).unwrap();
+    let (mut floats, mut wholes) = (vec![0.0; need[0]], vec![0; need[1]]);
+    let mut ys = vec![0.0; need[2]];
+    let (mut rows, mut section_numbers) = (vec![0; need[3]], vec![0; need[4]]);
+    let mut pieces = 0;
+    let answer = ours::fill::row_list(
+        f,
+        ours::fill::Work {
+            floats: &mut floats,
+            wholes: &mut wholes,
+        },
+        ours::fill::Listed {
+            ys: &mut ys,
+            rows: &mut rows,
+            section_numbers: &mut section_numbers,
+            pieces: &mut pieces,
+        },
+    );
+    assert_eq!(answer, expect::DONE);
+    let piece = |i: usize| Piece {
+        k: rows[i],
+        y: ys[3 * i],
+        xa: ys[3 * i + 1],
+        xb: ys[3 * i + 2],
+        section: section_numbers[i] as usize,
+    };
+    (0..pieces as usize).map(piece).collect()
+}
+
+fn port_tatami(f: &Fill) -> Vec<Polyline> {
+    let need = owed::tatami_need(f).unwrap();
+    let (mut floats, mut wholes) = (vec![0.0; need[0]], vec![0; need[1]]);
+    let (mut points, mut ends) = (vec![0.0; need[2]], vec![0; need[3]]);
+    let (mut sections, mut count) = (0, 0);
+    let answer = ours::fill::tatami(
+        f,
+        ours::fill::Work {
+            floats: &mut floats,
+            wholes: &mut wholes,
+        },
+        ours::fill::Sewn {
+            points: &mut points,
+            section_ends: &mut ends,
+            sections: &mut sections,
+            count: &mut count,
+        },
+    );
+    assert_eq!(answer, expect::DONE);
+    assert_eq!(
+        count,
+        ends[..sections as usize].last().copied().unwrap_or(0)
+    );
+    let mut from = 0;
+    let mut section = |&end: &u64| {
+        let part = inputs::outlines::points(&points[2 * from..2 * end as usize]);
+        from = end as usize;
+        part
+    };
+    ends[..sections as usize].iter().map(&mut section).collect()
+}
+
+/// The row numbers that both sides give; pieces and points are equal too.
+fn rows(f: &Fill) -> Vec<i64> {
+    let (rings, rule, params) = (f.outline.rings(), f.rule(), f.params());
+    let list = row_list(&rings, rule, &params);
+    assert_eq!(port_row_list(f), list);
+    assert_eq!(port_tatami(f), tatami(&rings, rule, &params));
+    list.iter().map(|p| p.k).collect()
+}
+
+#[test]
+fn f1_the_smallest_bare_row() {
+    assert_eq!(rows(&bare_strip(0.0)), [-3, -2, -1]);
+    assert_eq!(rows(&bare_strip(QUARTER)), [-3, -2]);
+}
+
+/// As the desk meets it: an L of 2 by 4 mm, sewn up and down. Its inner side
+/// stands where a row falls, x = 10, and that row is left out: between the rows
+/// at 14 and at 6 the cloth shows, and the field is sewn in two parts.
+#[test]
+fn f1_the_bare_strip_in_a_field() {
+    let ring = line(&[
+        (0.0, -20.0),
+        (20.0, -20.0),
+        (20.0, 0.0),
+        (10.0, 0.0),
+        (10.0, 20.0),
+        (0.0, 20.0),
+    ]);
+    let turned = |cosine: f64, x: f64| {
+        let moved: Polyline = ring.iter().map(|p| *p + P::new(x, 0.0)).collect();
+        Fill {
+            cosine,
+            sine: 1.0,
+            ..Fill::new(&[moved])
+        }
+    };
+    let sewn = |f: &Fill| (rows(f), port_tatami(f).len());
+    assert_eq!(sewn(&turned(QUARTER, 0.0)), (vec![-5, -4, -2, -1], 2));
+    // Mended by an exact cosine, or by moving the drawing by a hair.
+    assert_eq!(sewn(&turned(0.0, 0.0)), (vec![-5, -4, -3, -2, -1], 1));
+    assert_eq!(sewn(&turned(QUARTER, 0.01)), (vec![-5, -4, -3, -2, -1], 1));
+}
+
+#[test]
+fn f2_touching_fields_go_by_the_order_of_drawing() {
+    let (left, right) = (block(0.0, 0.0, 10.0, 10.0), block(10.0, 0.0, 10.0, 10.0));
+    for (rings, pieces) in [([left.clone(), right.clone()], 4), ([right, left], 2)] {
+        let f = Fill {
+            inset: 2.0,
+            ..Fill::new(&rings)
+        };
+        let list = row_list_by_place(&rings, f.rule(), &f.params());
+        assert_eq!(list.len(), pieces);
+        assert_eq!(port_row_list(&f), list);
+        let sewn = tatami_by_place(&rings, f.rule(), &f.params());
+        assert_eq!(port_tatami(&f), sewn);
+    }
+}
+
+#[test]
+fn f3_a_narrow_piece_is_dropped() {
+    let count = |width: f64| rows(&Fill::new(&[block(0.0, 0.0, width, 10.0)])).len();
+    assert_eq!((count(2.9), count(3.0)), (0, 2));
+}
+
+#[test]
+fn f4_pull_past_inset_by_one_breaks_every_link() {
+    let sections = |pull: f64| {
+        let f = Fill {
+            pull,
+            ..Fill::new(&[block(0.0, 0.0, 40.0, 40.0)])
+        };
+        assert_eq!(rows(&f).len(), 10);
+        port_tatami(&f).len()
+    };
+    assert_eq!((sections(0.99), sections(1.0)), (1, 10));
+}
+
+#[test]
+fn f5_a_step_an_ulp_over_len_is_cut_in_two() {
+    let f = Fill {
+        len: 1.2,
+        ..Fill::new(&[block(0.0, 0.0, 5.5, 4.0)])
+    };
+    assert_eq!(rows(&f), [0]);
+    assert_eq!(port_tatami(&f)[0].len(), 7);
+}
+
+#[test]
+fn f6_a_crossing_at_minus_zero() {
+    let tiny = f64::from_bits(1);
+    let side = [(-0.0, -6.0), (-tiny, 2.0), (-20.0, 2.0), (-20.0, -6.0)];
+    let f = Fill::new(&[line(&side)]);
+    assert_eq!(rows(&f).len(), 2);
+    let zeros: Vec<u64> = port_row_list(&f).iter().map(|p| p.xb.to_bits()).collect();
+    assert_eq!(zeros, [1 << 63; 2]);
+}

@@ -1,0 +1,581 @@
+//! The program `fill` by its bytes: what it prints for a job on standard input,
+//! against document 01's framing and checks and the original's answer. It needs
+//! no archive, but `target/bin/fill`; BEAHCEROT_FILL names another program.
+//! Without one the tests are skipped with a line, and fail where BEAHCEROT_GATE
+//! is set.
+
+// The driver's modules are read here as a test's own; it doesn't use all of them.
+#![allow(dead_code)]
+#[path = "../src/expect.rs"]
+mod expect;
+#[path = "../src/inputs/mod.rs"]
+mod inputs;
+#[path = "../src/owed.rs"]
+mod owed;
+#[path = "../src/rng.rs"]
+mod rng;
+
+use inputs::boundaries::boundaries;
+use inputs::fills::{self, Fill};
+use inputs::outlines::{Outline, block};
+use owed::{MARGIN, Order};
+use rng::Rng;
+use std::fs::File;
+use std::io::{Read, Seek, Write, stderr};
+use std::path::{Path, PathBuf};
+use std::process::{Child, Command, Stdio};
+use std::thread::JoinHandle;
+use std::time::{Duration, Instant};
+use zigzag::geom::P;
+
+const K1: &str = "0 1 4
+0 0000000000000000 4000000000000000
+0 4024000000000000 4000000000000000
+0 4024000000000000 4018000000000000
+0 0000000000000000 4018000000000000
+";
+const LAYOUT: &str = "1 0 0\n";
+
+/// What the program lends: floats, wholes, two floats for a point, sections.
+const LENT: [usize; 4] = [8192, 8192, 2 * 4096, 512];
+
+/// No job takes the program as long as this.
+const PATIENCE: Duration = Duration::from_secs(60);
+
+/// Where a job's parts stand.
+const VERSION: usize = 4;
+const RULE: usize = 5;
+const BOTTOM_UP: usize = 6;
+const RINGS: usize = 7;
+const STAGGER: usize = 8;
+const FLOATS: usize = 12;
+const HEAD: usize = 60;
+
+/// The program, or nothing where it isn't there yet.
+fn program() -> Option<PathBuf> {
+    let here = PathBuf::from(env!("CARGO_MANIFEST_DIR"));
+    let path =
+        std::env::var("BEAHCEROT_FILL").map_or(here.join("../target/bin/fill"), PathBuf::from);
+    if path.exists() {
+        return Some(path);
+    }
+    let gate = std::env::var_os("BEAHCEROT_GATE").is_some();
+    assert!(!gate, "no program {}", path.display());
+    // Past the test harness, which keeps a passing test's words to itself.
+    let _ = writeln!(stderr(), "skipped: no program {}", path.display());
+    None
+}
+
+fn start(program: &Path, stdin: Stdio) -> Child {
+    let mut command = Command::new(program);
+    command
+        .stdin(stdin)
+        .stdout(Stdio::piped())
+        .stderr(Stdio::piped());
+    command.spawn().expect("the program doesn't start")
+}
+
+/// All that comes out of a stream, read beside other work.
+fn read_all(mut stream: impl Read + Send + 'static) -> JoinHandle<Vec<u8>> {
+    std::thread::spawn(move || {
+        let mut all = Vec::new();
+        stream.read_to_end(&mut all).expect("a stream that is read");
+        all
+    })
+}
+
+/// What the program printed; it may say nothing on the other stream, no signal
+/// may end it, and it may not take forever.
+fn end(mut child: Child) -> String {
+    let out = read_all(child.stdout.take().unwrap());
+    let other = read_all(child.stderr.take().unwrap());
+    let start = Instant::now();
+    let status = loop {
+        if let Some(status) = child.try_wait().expect("a program to wait for") {
+            break status;
+        }
+        if start.elapsed() > PATIENCE {
+            let _ = child.kill();
+            panic!("the program doesn't end");
+        }
+        std::thread::sleep(Duration::from_micros(200));
+    };
+    assert!(status.code().is_some(), "{status}");
+    assert_eq!(other.join().unwrap(), []);
+    String::from_utf8(out.join().unwrap()).expect("text")
+}
+
+/// Runs the program on some bytes, given in pieces with a pause behind each.
+fn run_in_pieces<'a>(
+    program: &Path,
+    pieces: impl Iterator<Item = &'a [u8]> + Send,
+    pause: Duration,
+) -> String {
+    let mut child = start(program, Stdio::piped());
+    let mut stdin = child.stdin.take().unwrap();
+    std::thread::scope(|scope| {
+        scope.spawn(move || {
+            for piece in pieces {
+                // A program that has read enough may end: what it printed counts.
+                if stdin.write_all(piece).is_err() {
+                    break;
+                }
+                std::thread::sleep(pause);
+            }
+        });
+        end(child)
+    })
+}
+
+fn run(program: &Path, bytes: &[u8]) -> String {
+    run_in_pieces(program, std::iter::once(bytes), Duration::ZERO)
+}
+
+/// The job of a fill, where document 01's framing can say it.
+fn job(f: &Fill) -> Option<Vec<u8>> {
+    let (corners, ends) = (&f.outline.corners, &f.outline.ends);
+    let framed = f.rule <= 1
+        && corners.len() % 2 == 0
+        && ends.is_sorted()
+        && ends.last().copied().unwrap_or(0) == corners.len() as u64 / 2;
+    if !framed {
+        return None;
+    }
+    let mut body = vec![1, f.rule as u8, f.bottom_up.into()];
+    body.push(u8::try_from(ends.len()).ok()?);
+    body.extend(u32::try_from(f.stagger).ok()?.to_be_bytes());
+    for x in [f.cosine, f.sine, f.spacing, f.len, f.inset, f.pull] {
+        body.extend(x.to_be_bytes());
+    }
+    for ring in f.outline.rings() {
+        body.extend(u16::try_from(ring.len()).ok()?.to_be_bytes());
+        body.extend(
+            ring.iter()
+                .flat_map(|p| [p.x, p.y])
+                .flat_map(f64::to_be_bytes),
+        );
+    }
+    Some([&(body.len() as u32).to_be_bytes(), &body[..]].concat())
+}
+
+/// The next so many bytes.
+fn take<const N: usize>(bytes: &mut &[u8]) -> Option<[u8; N]> {
+    let (front, rest) = bytes.split_first_chunk()?;
+    *bytes = rest;
+    Some(*front)
+}
+
+fn float(bytes: &mut &[u8]) -> Option<f64> {
+    take(bytes).map(f64::from_be_bytes)
+}
+
+/// The fill that some bytes ask for; nothing where they are badly framed.
+fn decode(mut bytes: &[u8]) -> Option<Fill> {
+    let bytes = &mut bytes;
+    let length = u32::from_be_bytes(take(bytes)?);
+    if length as usize != bytes.len() {
+        return None;
+    }
+    let [version, rule, bottom_up, rings] = take(bytes)?;
+    if version != 1 || rule > 1 || bottom_up > 1 {
+        return None;
+    }
+    let mut f = Fill::new(&[]);
+    f.rule = rule.into();
+    f.bottom_up = bottom_up == 1;
+    f.stagger = u32::from_be_bytes(take(bytes)?).into();
+    for place in [
+        &mut f.cosine,
+        &mut f.sine,
+        &mut f.spacing,
+        &mut f.len,
+        &mut f.inset,
+        &mut f.pull,
+    ] {
+        *place = float(bytes)?;
+    }
+    let Outline { corners, ends } = &mut f.outline;
+    for _ in 0..rings {
+        for _ in 0..2 * u16::from_be_bytes(take(bytes)?) as usize {
+            corners.push(float(bytes)?);
+        }
+        ends.push(corners.len() as u64 / 2);
+    }
+    bytes.is_empty().then_some(f)
+}
+
+/// What the program owes for a fill: "answer sections points", then the points.
+fn wanted(f: &Fill) -> String {
+    let order = if owed::tied(f) {
+        Order::ByPlace
+    } else {
+        Order::Original
+    };
+    let left = owed::tatami(f, &LENT, order);
+    let (sections, count) = (left.counts[0] as usize, left.counts[1] as usize);
+    let mut text = format!("{} {sections} {count}\n", left.answer);
+    let points = &left.slices[2][MARGIN..];
+    let mut at = 0;
+    for (section, &end) in left.slices[3][MARGIN..MARGIN + sections].iter().enumerate() {
+        for p in points[2 * at..2 * end as usize].chunks(2) {
+            text += &format!("{section} {:016x} {:016x}\n", p[0], p[1]);
+        }
+        at = end as usize;
+    }
+    text
+}
+
+fn wanted_of(bytes: &[u8]) -> String {
+    decode(bytes).map_or(LAYOUT.to_string(), |f| wanted(&f))
+}
+
+/// Runs some bytes and compares all that is printed; gives the answer's number.
+fn check(program: &Path, bytes: &[u8]) -> u64 {
+    let (given, wanted) = (run(program, bytes), wanted_of(bytes));
+    if given != wanted {
+        let shown: String = bytes.iter().take(400).map(|b| format!("{b:02x}")).collect();
+        panic!(
+            "{} bytes {shown}\nwanted {:.600}\ngiven  {given:.600}",
+            bytes.len(),
+            wanted
+        );
+    }
+    given.bytes().next().map_or(9, |b| u64::from(b - b'0'))
+}
+
+fn k1() -> Vec<u8> {
+    job(&Fill::k1()).unwrap()
+}
+
+/// A job of two rings, the second of three corners.
+fn two_rings() -> Vec<u8> {
+    let hole = vec![P::new(2.0, 2.0), P::new(8.0, 3.0), P::new(5.0, 8.0)];
+    job(&Fill::new(&[block(0.0, 0.0, 30.0, 30.0), hole])).unwrap()
+}
+
+/// A job with its length made right again.
+fn relength(mut bytes: Vec<u8>) -> Vec<u8> {
+    let length = (bytes.len() - 4) as u32;
+    bytes[..4].copy_from_slice(&length.to_be_bytes());
+    bytes
+}
+
+#[test]
+fn k1_is_printed_as_document_01_has_it() {
+    let bytes = k1();
+    assert_eq!(bytes[..4], [0, 0, 0, 122]);
+    assert_eq!(wanted_of(&bytes), K1);
+    let example = concat!(env!("CARGO_MANIFEST_DIR"), "/../examples/k1.job");
+    assert_eq!(std::fs::read(example).unwrap(), bytes);
+    let Some(program) = program() else { return };
+    assert_eq!(run(&program, &bytes), K1);
+}
+
+#[test]
+fn each_boundary_of_each_refusal() {
+    let Some(program) = program() else { return };
+    let mut met = [0; 8];
+    for fill in boundaries() {
+        if let Some(bytes) = job(fill) {
+            met[check(&program, &bytes) as usize] += 1;
+        }
+    }
+    assert!(met.iter().all(|&n| n > 0), "answers met: {met:?}");
+}
+
+/// A block with so many rows, each with one piece.
+fn rows(count: usize) -> Fill {
+    Fill {
+        len: 1000.0,
+        ..Fill::new(&[block(0.0, 0.0, 10.0, 4.0 * count as f64)])
+    }
+}
+
+/// A ring of 1,024 sides, none of them level, so high that it has so many rows.
+fn many_sides(height: f64) -> Fill {
+    let side = |k: i32, x: f64| P::new(x, height * f64::from(k) / 512.0);
+    let mut ring: Vec<P> = (0..512).map(|k| side(k, 40.0 + f64::from(k % 2))).collect();
+    ring.extend((1..=512).rev().map(|k| side(k, f64::from(k % 2))));
+    Fill {
+        spacing: 1.0,
+        len: 1000.0,
+        ..Fill::new(&[ring])
+    }
+}
+
+/// The first ring's side from a corner on, cut in two.
+fn split(mut f: Fill, at: usize) -> Fill {
+    let mut ring = f.outline.rings().remove(0);
+    let middle = ring[at].lerp(ring[(at + 1) % ring.len()], 0.5);
+    ring.insert(at + 1, middle);
+    f.outline = Outline::new(&[ring]);
+    f
+}
+
+/// The first ring without a corner.
+fn without(mut f: Fill, at: usize) -> Fill {
+    let mut ring = f.outline.rings().remove(0);
+    ring.remove(at);
+    f.outline = Outline::new(&[ring]);
+    f
+}
+
+/// One row of so many points.
+fn points(count: usize) -> Fill {
+    Fill {
+        len: 1.0,
+        ..Fill::new(&[block(0.0, 0.0, (count - 1) as f64, 4.0)])
+    }
+}
+
+/// Rows of which each is a section: the pull takes the links outside.
+fn sections(count: usize) -> Fill {
+    Fill {
+        pull: 1.0,
+        ..rows(count)
+    }
+}
+
+/// What the program lends is enough to the last word, and no further.
+#[test]
+fn each_end_of_what_is_lent() {
+    let need = |f: &Fill| owed::tatami_need(f).unwrap();
+    // 4E + 6I wholes: two sides, 1,364 rows.
+    assert_eq!(need(&rows(1364))[1], LENT[1]);
+    // 6E + 4I floats: 1,024 sides, 512 rows.
+    assert_eq!(need(&many_sides(512.0))[0], LENT[0]);
+    // A need is even: two more is the least that is too much.
+    let wholes_over = split(split(rows(1363), 1), 4);
+    assert_eq!(need(&wholes_over)[1], LENT[1] + 2);
+    let floats_over = without(many_sides(514.0), 300);
+    assert_eq!(need(&floats_over)[0], LENT[0] + 2);
+    assert_eq!(need(&points(4096))[2], LENT[2]);
+    assert_eq!(need(&sections(512))[3], LENT[3]);
+    // As wide as coordinates go: 270 million points.
+    let wide = Fill {
+        len: 1.0,
+        ..Fill::new(&[block(-100_000.0, 0.0, 200_000.0, 4.0 * 1364.0)])
+    };
+    let cases = [
+        (rows(1364), 0),
+        (rows(1365), 6),
+        (many_sides(512.0), 0),
+        (many_sides(513.0), 6),
+        (wholes_over, 6),
+        (floats_over, 6),
+        (points(4096), 0),
+        (points(4097), 7),
+        (sections(512), 0),
+        (sections(513), 7),
+        (wide, 7),
+        (rows(4096), 6),
+        (rows(4097), 5),
+    ];
+    let Some(program) = program() else { return };
+    for (fill, answer) in cases {
+        assert_eq!(check(&program, &job(&fill).unwrap()), answer);
+    }
+}
+
+#[test]
+fn a_cut_or_longer_job_is_badly_framed() {
+    let Some(program) = program() else { return };
+    for whole in [k1(), two_rings()] {
+        for length in 0..whole.len() {
+            let cut = whole[..length].to_vec();
+            assert_eq!(check(&program, &cut), 1, "cut to {length} bytes");
+            if length >= 4 {
+                let cut = relength(cut);
+                assert_eq!(check(&program, &cut), 1, "a job of {length} bytes");
+            }
+        }
+        let longer = [&whole[..], &[0]].concat();
+        assert_eq!(check(&program, &longer), 1);
+        assert_eq!(check(&program, &relength(longer)), 1);
+        assert_eq!(check(&program, &[&whole[..], &whole[..]].concat()), 1);
+        assert_eq!(check(&program, &whole), 0);
+    }
+}
+
+#[test]
+fn each_byte_of_the_head() {
+    let Some(program) = program() else { return };
+    for at in 0..STAGGER {
+        for byte in 0..=255 {
+            let mut bytes = k1();
+            bytes[at] = byte;
+            let right = match at {
+                RULE | BOTTOM_UP => byte <= 1,
+                VERSION | RINGS => byte == 1,
+                _ => byte == k1()[at],
+            };
+            let answer = check(&program, &bytes);
+            assert_eq!(answer == 1, !right, "byte {at} is {byte}");
+        }
+    }
+}
+
+/// Each setting of the head at its ends, past them, and with wild bits.
+#[test]
+fn settings_by_their_bits() {
+    let Some(program) = program() else { return };
+    let ends = [0.5, 1.0, 100.0, 1000.0, 0.0, f64::NAN, f64::INFINITY];
+    for place in 0..6 {
+        for x in ends.iter().flat_map(|&x| [x, -x]) {
+            for ulps in [-1, 0, 1] {
+                let mut bytes = k1();
+                let at = FLOATS + 8 * place;
+                let moved = inputs::numbers::beside(x, ulps);
+                bytes[at..at + 8].copy_from_slice(&moved.to_be_bytes());
+                check(&program, &bytes);
+            }
+        }
+    }
+    for stagger in [0u32, 1, 2, 7, 999, 1000, 1001, 1 << 16, u32::MAX] {
+        let mut bytes = two_rings();
+        bytes[STAGGER..FLOATS].copy_from_slice(&stagger.to_be_bytes());
+        let answer = check(&program, &bytes);
+        assert_eq!(answer, if stagger <= 1000 { 0 } else { 3 });
+    }
+}
+
+/// Jobs that are larger than any that is done.
+#[test]
+fn large_jobs() {
+    let Some(program) = program() else { return };
+    let plain = Fill::new(&[]);
+    let head = job(&plain).unwrap();
+    assert_eq!(check(&program, &head), 0);
+    // A ring that says it has 65,535 corners, with none, and with all of them.
+    let mut bytes = head.clone();
+    bytes[RINGS] = 1;
+    bytes.extend([255, 255]);
+    assert_eq!(check(&program, &relength(bytes.clone())), 1);
+    bytes.extend(vec![0; 16 * 65_535]);
+    assert_eq!(check(&program, &relength(bytes.clone())), 1);
+    bytes.extend(vec![0; 1 << 20]);
+    assert_eq!(check(&program, &relength(bytes.clone())), 1);
+    assert_eq!(check(&program, &bytes), 1);
+    // 255 rings of none, of one corner, and 1,024 corners and one more in them.
+    for (each, last, answer) in [(0, 0, 0), (1, 1, 0), (4, 8, 0), (4, 9, 1)] {
+        let mut bytes = head.clone();
+        bytes[RINGS] = 255;
+        for ring in 0..255 {
+            let corners: u16 = if ring == 254 { last } else { each };
+            bytes.extend(corners.to_be_bytes());
+            for (x, y) in [(0, 0), (7, 0), (7, 7), (0, 7)]
+                .iter()
+                .cycle()
+                .take(corners.into())
+            {
+                for at in [ring % 16 * 9 + x, ring / 16 * 9 + y] {
+                    bytes.extend(f64::from(at).to_be_bytes());
+                }
+            }
+        }
+        assert_eq!(check(&program, &relength(bytes)), answer, "rings of {each}");
+    }
+}
+
+#[test]
+fn a_job_may_come_in_pieces() {
+    let Some(program) = program() else { return };
+    for bytes in [k1(), two_rings()] {
+        let wanted = wanted_of(&bytes);
+        let short = Duration::from_millis(1);
+        assert_eq!(run_in_pieces(&program, bytes.chunks(1), short), wanted);
+        for size in [3, 5, HEAD, 64, 100] {
+            let pause = Duration::from_millis(20);
+            assert_eq!(run_in_pieces(&program, bytes.chunks(size), pause), wanted);
+        }
+        // Cut in pieces and too short, or too long.
+        let cut = &bytes[..bytes.len() - 1];
+        assert_eq!(run_in_pieces(&program, cut.chunks(7), short), LAYOUT);
+        let longer = [&bytes[..], &[0]].concat();
+        assert_eq!(run_in_pieces(&program, longer.chunks(7), short), LAYOUT);
+    }
+    let large = job(&many_sides(300.0)).unwrap();
+    let pause = Duration::from_millis(5);
+    let given = run_in_pieces(&program, large.chunks(4096), pause);
+    assert_eq!(given, wanted_of(&large));
+}
+
+/// From a file, and with nothing to read.
+#[test]
+fn a_job_may_stand_in_a_file() {
+    let Some(program) = program() else { return };
+    let path = std::env::temp_dir().join(format!("beahcerot-{}.job", std::process::id()));
+    let mut file = File::options()
+        .read(true)
+        .write(true)
+        .create(true)
+        .truncate(true)
+        .open(&path)
+        .unwrap();
+    file.write_all(&k1()).unwrap();
+    file.rewind().unwrap();
+    std::fs::remove_file(&path).unwrap();
+    assert_eq!(end(start(&program, file.into())), K1);
+    assert_eq!(end(start(&program, Stdio::null())), LAYOUT);
+}
+
+/// Random bytes, and jobs with some bytes changed: the answer is as the bytes say.
+#[test]
+fn random_bytes() {
+    let Some(program) = program() else { return };
+    let mut rng = Rng::new(1, "random bytes");
+    let mut met = [0; 8];
+    for n in 0..3000 {
+        let mut bytes = match n % 4 {
+            0 => (0..rng.below(200)).map(|_| rng.next() as u8).collect(),
+            1 => {
+                // Well framed, with wild numbers.
+                let mut bytes = k1();
+                let from = rng.pick(&[STAGGER, FLOATS, HEAD + 2]);
+                bytes[from..].fill_with(|| rng.next() as u8);
+                bytes[HEAD..HEAD + 2].copy_from_slice(&[0, 4]);
+                bytes
+            }
+            _ => generated(&mut rng, 1).remove(0),
+        };
+        if n % 4 >= 2 {
+            for _ in 0..1 + rng.below(3) {
+                let at = rng.index(bytes.len());
+                bytes[at] ^= 1 << rng.below(8);
+            }
+        }
+        met[check(&program, &bytes) as usize] += 1;
+    }
+    assert!(met[0] > 300 && met[1] > 300, "answers met: {met:?}");
+}
+
+fn generated(rng: &mut Rng, n: usize) -> Vec<Vec<u8>> {
+    let fills = std::iter::from_fn(|| Some(fills::any(rng)));
+    fills.filter_map(|f| job(&f)).take(n).collect()
+}
+
+#[test]
+fn generated_fills() {
+    let Some(program) = program() else { return };
+    let mut rng = Rng::new(1, "program");
+    let mut met = [0; 8];
+    for bytes in generated(&mut rng, 600) {
+        met[check(&program, &bytes) as usize] += 1;
+    }
+    assert!(met[0] > 200, "answers met: {met:?}");
+}
+
+/// The other examples that stand beside the program.
+#[test]
+fn the_examples() {
+    let Some(program) = program() else { return };
+    let folder = concat!(env!("CARGO_MANIFEST_DIR"), "/../examples");
+    for entry in std::fs::read_dir(folder).unwrap() {
+        let path = entry.unwrap().path();
+        if path.extension().is_some_and(|e| e == "job") {
+            let mut bytes = Vec::new();
+            File::open(path).unwrap().read_to_end(&mut bytes).unwrap();
+            check(&program, &bytes);
+        }
+    }
+}
