@@ -9,7 +9,11 @@ pub fn bits(b: u64) {
     io::print_hex(STDOUT_FILENO, b, 16);
 }
 
+pub fn number(n: u64) {
+    io::print_decimal(STDOUT_FILENO, n);
+}
+
 pub fn refused(n: u64) {
     text(b"refused: ");
-    io::print_decimal(STDOUT_FILENO, n);
+    number(n);
 }

@@ -1,0 +1,114 @@
+// Module 4, the fill of square Q: K1, and the checks that are run only.
+use crate::say;
+use geom::FillRule;
+use leaves::to_bits;
+use rules::Settings;
+use tatami::Filled;
+use tatami::tatami;
+
+// The sheet's settings but for the spacing: len 10, inset 0, pull 0, c 1, s 0.
+fn settings(spacing: f64) -> Settings {
+    Settings {
+        spacing,
+        len: 10.0,
+        inset: 0.0,
+        pull: 0.0,
+        cosine: 1.0,
+        sine: 0.0,
+    }
+}
+
+fn end(r: Filled) {
+    say::text(b" is ");
+    say::number(r.answer);
+    say::text(b", sections ");
+    say::number(r.sections);
+    say::text(b", points ");
+    say::number(r.points);
+    say::text(b"\n");
+}
+
+fn spot(x: f64, y: f64) {
+    say::bits(to_bits(x));
+    say::text(b" ");
+    say::bits(to_bits(y));
+    say::text(b"\n");
+}
+
+// Q, NonZero, stagger 1, top down.
+fn square(spacing: f64, points: &mut [f64], floats: &mut [f64]) -> Filled {
+    let corners = [0.0, 0.0, 10.0, 0.0, 10.0, 10.0, 0.0, 10.0];
+    let ends = [4];
+    let mut stops = [0; 1];
+    let mut wholes = [0; 20];
+    let g = settings(spacing);
+    tatami(
+        &corners,
+        &ends,
+        FillRule::NonZero,
+        g,
+        1,
+        false,
+        points,
+        &mut stops,
+        floats,
+        &mut wholes,
+    )
+}
+
+fn nothing() -> Filled {
+    let g = settings(4.0);
+    tatami(
+        &[],
+        &[],
+        FillRule::NonZero,
+        g,
+        1,
+        false,
+        &mut [],
+        &mut [],
+        &mut [],
+        &mut [],
+    )
+}
+
+fn k1() {
+    let mut points = [0.0; 8];
+    let mut floats = [0.0; 20];
+    say::text(b"fill of Q with the exact need");
+    end(square(4.0, &mut points, &mut floats));
+    spot(points[0], points[1]);
+    spot(points[2], points[3]);
+    spot(points[4], points[5]);
+    spot(points[6], points[7]);
+}
+
+fn low_spacing() {
+    let mut points = [0.0; 8];
+    let mut floats = [0.0; 20];
+    say::text(b"fill of Q at spacing 0.49");
+    end(square(0.49, &mut points, &mut floats));
+}
+
+fn short_work() {
+    let mut points = [0.0; 8];
+    let mut floats = [0.0; 19];
+    say::text(b"fill of Q one float short");
+    end(square(4.0, &mut points, &mut floats));
+}
+
+fn short_room() {
+    let mut points = [0.0; 7];
+    let mut floats = [0.0; 20];
+    say::text(b"fill of Q to 7 floats");
+    end(square(4.0, &mut points, &mut floats));
+}
+
+pub fn write() {
+    k1();
+    say::text(b"fill of no rings");
+    end(nothing());
+    low_spacing();
+    short_work();
+    short_room();
+}
