@@ -1,11 +1,11 @@
 // Lines and running stitch: a writing call answers document 01's number and stores how many points it wrote, none after a refusal.
 ghost use mathlib.Core.Path.{_≡_};
 ghost use lib.ListN.{length};
-ghost use Rattle.geom.specs.LineAnswers.{polylineLengthAnswer, resampleSewn, resampleOutput};
+ghost use Rattle.geometry.specs.LineAnswers.{polylineLengthAnswer, resampleSewn, resampleOutput};
 ghost use Rattle.stroke.specs.RunningAnswers.{runningSewn, runningOutput};
 ghost use Rattle.exports.specs.Stored.{stored};
 use crate::number::store;
-use geom::checked_line;
+use geometry::checked_line;
 
 #[no_mangle]
 pub extern "C" fn beahcerot_polyline_length(line: &[f64], value: &mut f64) -> u64

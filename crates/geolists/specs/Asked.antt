@@ -9,8 +9,8 @@ use Rattle.geom.specs.declared.point.P.{P}
 use Rattle.geom.specs.declared.rule.FillRule.{FillRule}
 use Rattle.geom.specs.declared.rule.FillRule.the-variants.{NonZero, EvenOdd}
 use Rattle.geom.specs.Point.{point}
-use Rattle.geom.specs.Answers.{dotAnswer, lenAnswer, distAnswer, normAnswer, perpAnswer, rotateAnswer, lerpAnswer, crossAnswer, windingAnswer, pointInsideAnswer, segmentInsideAnswer}
-use Rattle.geom.specs.LineAnswers.{polylineLengthAnswer}
+use Rattle.geometry.specs.Answers.{dotAnswer, lenAnswer, distAnswer, normAnswer, perpAnswer, rotateAnswer, lerpAnswer, crossAnswer, windingAnswer, pointInsideAnswer, segmentInsideAnswer}
+use Rattle.geometry.specs.LineAnswers.{polylineLengthAnswer}
 use Rattle.geolists.specs.Said.{floatWords, spotWords, woundWords, truthWords}
 
 -- ---- numbers

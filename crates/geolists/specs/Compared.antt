@@ -7,7 +7,7 @@ use lib.Dec.{ltb, eqb}
 use lib.ListN.{length, take, drop, getD}
 use lib.Ieee.{Float, nan}
 use Rattle.refusal.specs.declared.Sewn.{Sewn}
-use Rattle.geom.specs.LineAnswers.{resampleSewn, resampleOutput}
+use Rattle.geometry.specs.LineAnswers.{resampleSewn, resampleOutput}
 use Rattle.stroke.specs.RunningAnswers.{runningSewn, runningOutput}
 use Rattle.geolists.specs.Words.{bits, same, verdict}
 use Rattle.geolists.specs.Asked.{valueWords}

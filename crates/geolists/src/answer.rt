@@ -6,7 +6,7 @@ use crate::said::Said;
 use crate::said::of_leaf;
 use crate::said::of_spot;
 use geom::P;
-use geom::checked;
+use geometry::checked;
 
 fn of_two(f: u64, x: f64, y: f64) -> Said
     ensures { λ r. ⌜ saidWords r ≡ twoWords f x y ⌝ }
@@ -58,5 +58,5 @@ pub fn scalar(f: u64, l: &[f64]) -> Said
 pub fn length(l: &[f64]) -> Said
     ensures { λ r. ⌜ saidWords r ≡ lengthWords (now (l .entry)) ⌝ }
 {
-    of_leaf(geom::checked_line::polyline_length(l))
+    of_leaf(geometry::checked_line::polyline_length(l))
 }

@@ -7,7 +7,7 @@ use crate::said::of_truth;
 use crate::said::of_wound;
 use geom::FillRule;
 use geom::P;
-use geom::checked;
+use geometry::checked;
 
 fn rule_of(n: usize) -> FillRule
     ensures { λ r. ⌜ r ≡ ruleOf n ⌝ }

@@ -1,13 +1,13 @@
 // An answer as the words of a list.
 ghost use mathlib.Core.Path.{_≡_};
 ghost use Rattle.leaves.specs.Answer.{said};
-ghost use Rattle.geom.specs.Answers.{saidSpot, saidWound, saidTruth};
+ghost use Rattle.geometry.specs.Answers.{saidSpot, saidWound, saidTruth};
 ghost use mathlib.Core.List.{[], _∷_};
 ghost use Rattle.geolists.specs.Words.{verdict};
 ghost use Rattle.geolists.specs.Said.{saidWords, floatWords, spotWords, woundWords, truthWords};
-use geom::checked::Spot;
-use geom::checked::Truth;
-use geom::checked::Wound;
+use geometry::checked::Spot;
+use geometry::checked::Truth;
+use geometry::checked::Wound;
 use leaves::checked::Leaf;
 use leaves::to_bits;
 

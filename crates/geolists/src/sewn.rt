@@ -59,7 +59,7 @@ fn resample_into(l: &[f64], out: &mut [f64], want: &[usize]) -> u64
     if l.len() < 2 {
         return 2;
     }
-    let s = geom::checked_line::resample_keep_corners(&l[2..], l[1], out);
+    let s = geometry::checked_line::resample_keep_corners(&l[2..], l[1], out);
     compare(s, out, want)
 }
 

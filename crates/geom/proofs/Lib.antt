@@ -1,4 +1,3 @@
-mod Checks
 mod Loops
 mod Parity
 mod LineSteps

@@ -1,4 +1,4 @@
--- What the contracts of `geom` cite (Point, Outline, Winding, Runs, Steps, Inside, Sewing, Line, Limits, Answers, LineAnswers), and what is proved of it.
+-- What the contracts of `geom` cite (Point, Outline, Winding, Runs, Steps, Inside, Sewing, Line, Limits), and what is proved of it.
 pub mod Point
 pub mod Outline
 pub mod Winding
@@ -8,12 +8,9 @@ pub mod Inside
 pub mod Sewing
 pub mod Line
 pub mod Limits
-pub mod Answers
-pub mod LineAnswers
 pub mod OutlineLaws
 pub mod WindingLaws
 pub mod SewingLaws
 pub mod LineLaws
 pub mod LimitsLaws
-pub mod AnswersLaws
 pub mod Ks

@@ -1,6 +1,4 @@
 // Points, outlines, winding and lines: geom.rs. The cores take every f64, NaN and infinities too.
-pub mod checked;
-pub mod checked_line;
 pub mod inside;
 pub mod limits;
 pub mod line;

@@ -10,7 +10,7 @@ use Rattle.refusal.specs.declared.Sewn.{Sewn}
 use Rattle.geom.specs.Outline.{points}
 use Rattle.geom.specs.Limits.{goodLen, goodPasses}
 use Rattle.geom.specs.Sewing.{flat, fitted}
-use Rattle.geom.specs.LineAnswers.{line}
+use Rattle.geometry.specs.LineAnswers.{line}
 use Rattle.stroke.specs.Running.{running}
 
 -- `room` is the length of the output slice

@@ -5,7 +5,7 @@ use Rattle.geolists.proofs.answer.length.Tie as tie
 use Rattle.geolists.proofs.answer.length.Reads as reads
 use Rattle.geolists.proofs.answer.length.Lts as lts
 use Rattle.geolists.proofs.said.of_leaf.Reads as of-leaf-reads
-use Rattle.geom.proofs.checked_line.polyline_length.Reads as polyline-length-reads
+use Rattle.geometry.proofs.checked_line.polyline_length.Reads as polyline-length-reads
 
 -- src/answer.rt:61:13
 polyline-length-requires : tie.Need-polyline-length-requires

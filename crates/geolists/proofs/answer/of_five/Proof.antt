@@ -6,7 +6,7 @@ use Rattle.geolists.proofs.answer.of_five.Tie as tie
 use Rattle.geolists.proofs.answer.of_five.Reads as reads
 use Rattle.geolists.proofs.answer.of_five.Lts as lts
 use Rattle.geolists.proofs.said.of_spot.Reads as of-spot-reads
-use Rattle.geom.proofs.checked.lerp.Reads as lerp-reads
+use Rattle.geometry.proofs.checked.lerp.Reads as lerp-reads
 
 -- src/answer.rt:38:24
 lerp-requires : tie.Need-lerp-requires

@@ -7,10 +7,10 @@ use Rattle.geolists.proofs.answer.of_four.Reads as reads
 use Rattle.geolists.proofs.answer.of_four.Lts as lts
 use Rattle.geolists.proofs.said.of_leaf.Reads as of-leaf-reads
 use Rattle.geolists.proofs.said.of_spot.Reads as of-spot-reads
-use Rattle.geom.proofs.checked.cross.Reads as cross-reads
-use Rattle.geom.proofs.checked.dist.Reads as dist-reads
-use Rattle.geom.proofs.checked.dot.Reads as dot-reads
-use Rattle.geom.proofs.checked.rotate.Reads as rotate-reads
+use Rattle.geometry.proofs.checked.cross.Reads as cross-reads
+use Rattle.geometry.proofs.checked.dist.Reads as dist-reads
+use Rattle.geometry.proofs.checked.dot.Reads as dot-reads
+use Rattle.geometry.proofs.checked.rotate.Reads as rotate-reads
 
 -- src/answer.rt:26:22
 dot-requires : tie.Need-dot-requires

@@ -7,9 +7,9 @@ use Rattle.geolists.proofs.answer.of_two.Reads as reads
 use Rattle.geolists.proofs.answer.of_two.Lts as lts
 use Rattle.geolists.proofs.said.of_leaf.Reads as of-leaf-reads
 use Rattle.geolists.proofs.said.of_spot.Reads as of-spot-reads
-use Rattle.geom.proofs.checked.len.Reads as len-reads
-use Rattle.geom.proofs.checked.norm.Reads as norm-reads
-use Rattle.geom.proofs.checked.perp.Reads as perp-reads
+use Rattle.geometry.proofs.checked.len.Reads as len-reads
+use Rattle.geometry.proofs.checked.norm.Reads as norm-reads
+use Rattle.geometry.proofs.checked.perp.Reads as perp-reads
 
 -- src/answer.rt:15:22
 len-requires : tie.Need-len-requires

@@ -7,7 +7,7 @@ use Rattle.geolists.proofs.outline.point.Reads as reads
 use Rattle.geolists.proofs.outline.point.Lts as lts
 use Rattle.geolists.proofs.outline.rule_of.Reads as rule-of-reads
 use Rattle.geolists.proofs.said.of_truth.Reads as of-truth-reads
-use Rattle.geom.proofs.checked.point_inside.Reads as point-inside-reads
+use Rattle.geometry.proofs.checked.point_inside.Reads as point-inside-reads
 
 -- src/outline.rt:34:9
 returns : tie.Need-returns

@@ -7,7 +7,7 @@ use Rattle.geolists.proofs.outline.segment.Reads as reads
 use Rattle.geolists.proofs.outline.segment.Lts as lts
 use Rattle.geolists.proofs.outline.rule_of.Reads as rule-of-reads
 use Rattle.geolists.proofs.said.of_truth.Reads as of-truth-reads
-use Rattle.geom.proofs.checked.segment_inside.Reads as segment-inside-reads
+use Rattle.geometry.proofs.checked.segment_inside.Reads as segment-inside-reads
 
 -- src/outline.rt:43:9
 returns : tie.Need-returns

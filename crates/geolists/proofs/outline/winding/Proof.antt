@@ -6,7 +6,7 @@ use Rattle.geolists.proofs.outline.winding.Tie as tie
 use Rattle.geolists.proofs.outline.winding.Reads as reads
 use Rattle.geolists.proofs.outline.winding.Lts as lts
 use Rattle.geolists.proofs.said.of_wound.Reads as of-wound-reads
-use Rattle.geom.proofs.checked.winding.Reads as winding-reads
+use Rattle.geometry.proofs.checked.winding.Reads as winding-reads
 
 -- src/outline.rt:25:9
 returns : tie.Need-returns
