@@ -2,3 +2,4 @@
 pub mod Desk
 pub mod DeskLaws
 pub mod Theorems
+pub mod Ks
