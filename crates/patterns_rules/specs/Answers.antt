@@ -16,6 +16,7 @@ use Rattle.geom.specs.Answers.{outline}
 use Rattle.rules.specs.Calls.{sewnPoints, sewnEnds}
 use Rattle.patterns_rules.specs.declared.Bounds.{Bounds}
 use Rattle.patterns_rules.specs.declared.Grid.{Grid}
+use Rattle.patterns_rules.specs.declared.Count.{Count}
 use Rattle.patterns_rules.specs.declared.Lines.{Lines}
 use Rattle.patterns_rules.specs.Patterns.{bounds, clipInside, gridOf, crossStitch}
 
@@ -28,6 +29,10 @@ roomFor ls points ends = unless ROOM (leb (length (flat (sewnPoints ls))) points
 -- what a call says, by its answer n: every refusal returns zero counts
 unfoldable pub saidLines : ℕ → List (List P) → Lines
 saidLines n ls = cond (eqb n DONE) (record { answer = DONE; lines = length ls; points = length (sewnPoints ls) }) (record { answer = n; lines = 0; points = 0 })
+
+-- how many lines, and how many points they have
+unfoldable pub countOf : List (List P) → Count
+countOf ls = record { lines = length ls; points = length (sewnPoints ls) }
 
 -- what it leaves in the slice of points, and in that of ends
 unfoldable pub leftPoints : ℕ → List (List P) → List Float → List Float
