@@ -14,7 +14,7 @@ use Rattle.geom.specs.Point.{point, len, dist, lerp}
 use Rattle.geom.specs.Steps.{steps, along}
 use Rattle.geom.specs.Winding.{edge, edges, ring, winding}
 use Rattle.geom.specs.Inside.{inside, pointInside, stepsInside, segmentInside}
-use Rattle.patterns_rules.specs.Patterns.{bounds, pieceInside, closed, opened, runsFrom, clipInside, below, firstCell, pastCell, gridIn, gridOf, xAt, yAt, cellInside, joined, runs, outOver, backOver, outAndBack, rowRuns, rowLines, stitched, crossStitch}
+use Rattle.patterns_rules.specs.Patterns.{bounds, pieceInside, closed, opened, runsFrom, clipInside, upTo, firstCell, pastCell, gridIn, gridOf, xAt, yAt, cellInside, joined, runs, outOver, backOver, outAndBack, rowRuns, rowLines, stitched, crossStitch}
 
 abbrev pt : ℕ → ℕ → P
 pt x y = point (real (pos x)) (real (pos y))
@@ -25,7 +25,7 @@ Q = (pt 0 0 ∷ pt 10 0 ∷ pt 10 10 ∷ pt 0 10 ∷ []) ∷ []
 
 -- K9: cell 10
 pub k9 : crossStitch Q NonZero (real (pos 10)) ≡ (pt 0 10 ∷ pt 10 0 ∷ pt 10 10 ∷ pt 0 0 ∷ []) ∷ []
-unfolding crossStitch stitched rowLines rowRuns outAndBack backOver outOver runs joined cellInside yAt xAt gridOf gridIn pastCell firstCell below bounds pointInside inside winding ring edges edge floor ceil wholeOf smaller larger before negative finite literal odd size isNan toSigned toUnsigned ofInt round add sub mul div neg lt le eq
+unfolding crossStitch stitched rowLines rowRuns outAndBack backOver outOver runs joined cellInside yAt xAt gridOf gridIn pastCell firstCell upTo bounds pointInside inside winding ring edges edge floor ceil wholeOf smaller larger before negative finite literal odd size isNan toSigned toUnsigned ofInt round add sub mul div neg lt le eq
 k9 = refl
 
 -- a line that leaves Q and comes back: two runs, and the points outside in none

@@ -61,8 +61,8 @@ clipInside (p ∷ line) rings rule = runsFrom rings rule [] p line
 -- ---- cross stitch
 
 -- how many whole numbers from lo to hi, the upper end excluded
-unfoldable pub below : ℤ → ℤ → ℕ
-below lo hi = cond (ltZ lo hi) (natAbs (hi -ℤ lo)) 0
+unfoldable pub upTo : ℤ → ℤ → ℕ
+upTo lo hi = cond (ltZ lo hi) (natAbs (hi -ℤ lo)) 0
 
 -- cells run from floor to ceiling
 unfoldable pub firstCell : Float → Float → ℤ
@@ -77,7 +77,7 @@ gridIn b cell =
     let c = firstCell (b .left) cell in
     let r = firstCell (b .top) cell in
     let some = finite (b .left) in
-    record { cell = cell; left = c; columns = cond some (below c (pastCell (b .right) cell)) 0; top = r; rows = cond some (below r (pastCell (b .bottom) cell)) 0 }
+    record { cell = cell; left = c; columns = cond some (upTo c (pastCell (b .right) cell)) 0; top = r; rows = cond some (upTo r (pastCell (b .bottom) cell)) 0 }
 
 unfoldable pub gridOf : List (List P) → Float → Grid
 gridOf rings cell = gridIn (bounds rings) cell
