@@ -56,7 +56,7 @@ fn store_truth(t: Truth, value: &mut u64) -> u64
     }
 }
 
-fn rule_of(n: u64) -> FillRule
+pub fn rule_of(n: u64) -> FillRule
     ensures { λ r. ⌜ r ≡ ruleOf n ⌝ }
 {
     if n == 0 {

@@ -3,3 +3,4 @@
 pub mod geometry;
 pub mod line;
 pub mod number;
+pub mod pattern;
