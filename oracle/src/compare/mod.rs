@@ -4,6 +4,7 @@
 
 pub mod geom;
 pub mod leaves;
+pub mod patterns;
 mod records;
 pub mod stroke;
 
@@ -44,8 +45,10 @@ pub struct Job {
 pub struct Function {
     pub name: &'static str,
     compare: Box<dyn Fn(&Job) -> Report>,
-    bench: Option<Box<dyn Fn(&mut Rng) -> Timing>>,
+    benches: Vec<(&'static str, Bench)>,
 }
+
+type Bench = Box<dyn Fn(&mut Rng) -> Timing>;
 
 /// A named tie: the calls that the Rust leaves open, and what document 01 says there.
 pub type Tie<T> = Option<(&'static str, T)>;
@@ -89,21 +92,35 @@ impl Function {
         Function {
             name,
             compare: Box::new(compare),
-            bench: None,
+            benches: Vec::new(),
         }
     }
 
     /// What to time: inputs from `make`, and the two sides bare of any harness.
     pub fn timed<I, A, B>(
-        mut self,
+        self,
         make: impl Fn(&mut Rng) -> I + 'static,
         rust: impl Fn(&I) -> A + 'static,
         ours: impl Fn(&I) -> B + 'static,
     ) -> Function {
-        self.bench = Some(Box::new(move |rng: &mut Rng| {
-            let inputs: Vec<I> = (0..1000).map(|_| make(rng)).collect();
+        let name = self.name;
+        self.timed_as(name, 1000, make, rust, ours)
+    }
+
+    /// The same under a label, over so many inputs.
+    pub fn timed_as<I, A, B>(
+        mut self,
+        label: &'static str,
+        inputs: usize,
+        make: impl Fn(&mut Rng) -> I + 'static,
+        rust: impl Fn(&I) -> A + 'static,
+        ours: impl Fn(&I) -> B + 'static,
+    ) -> Function {
+        let bench = move |rng: &mut Rng| {
+            let inputs: Vec<I> = (0..inputs).map(|_| make(rng)).collect();
             time(&inputs, &rust, &ours)
-        }));
+        };
+        self.benches.push((label, Box::new(bench)));
         self
     }
 
@@ -116,9 +133,9 @@ impl Function {
     }
 
     pub fn bench(&self, seed: u64) {
-        if let Some(bench) = &self.bench {
+        for (name, bench) in &self.benches {
             let t = bench(&mut Rng::new(seed, self.name));
-            let (name, ours, rust) = (self.name, t.ours, t.rust);
+            let (ours, rust) = (t.ours, t.rust);
             println!(
                 "{name:<22} ours {ours:10.2} ns   Rust {rust:10.2} ns   ratio {:7.3}",
                 ours / rust
@@ -359,9 +376,9 @@ impl<const N: usize> Operands for [f64; N] {
     }
 }
 
-impl Outcome for [f64; 2] {
+impl<const N: usize> Outcome for [f64; N] {
     fn same(&self, other: &Self) -> bool {
-        self[0].same(&other[0]) && self[1].same(&other[1])
+        self.iter().zip(other).all(|(a, b)| a.same(b))
     }
     fn show(&self) -> String {
         list(self)
@@ -397,6 +414,38 @@ impl Outcome for Written {
     }
 }
 
+/// A call that writes lines to two lent slices: their points, x before y, and
+/// where each ends, in points.
+pub struct WrittenLines {
+    pub answer: u64,
+    pub lines: u64,
+    pub points: u64,
+    pub out: Vec<f64>,
+    pub stops: Vec<u64>,
+}
+
+impl Outcome for WrittenLines {
+    fn same(&self, other: &Self) -> bool {
+        (self.answer, self.lines, self.points) == (other.answer, other.lines, other.points)
+            && self.stops == other.stops
+            && self.out.len() == other.out.len()
+            && self.out.iter().zip(&other.out).all(|(a, b)| a.same(b))
+    }
+    fn show(&self) -> String {
+        format!(
+            "answer {} lines {} points {} out {} stops {:x?}",
+            self.answer,
+            self.lines,
+            self.points,
+            list(&self.out),
+            self.stops
+        )
+    }
+    fn answer(&self) -> Option<u64> {
+        Some(self.answer)
+    }
+}
+
 /// A group's name, its functions, and its replay list if it has one.
 pub struct Group {
     pub name: &'static str,
@@ -420,6 +469,11 @@ pub fn groups() -> Vec<Group> {
             name: "stroke",
             functions: stroke::functions(),
             replay: Some(stroke::replay),
+        },
+        Group {
+            name: "patterns",
+            functions: patterns::functions(),
+            replay: None,
         },
     ]
 }
