@@ -6,7 +6,7 @@ use mathlib.Core.Bool.{Bool, false}
 use mathlib.Core.List.{List, [], _++_, append-nil}
 use lib.ListN.{length, drop}
 use lib.Ieee.{Float}
-use Rattle.seqs.specs.Front.{Front, front-at, front-room-block, front-whole}
+use Rattle.seqs.specs.Front.{Front, front-at, front-count, front-room-block, front-whole}
 use Rattle.seqs.specs.Slices.{put}
 use Rattle.geom.specs.declared.point.P.{P}
 use Rattle.geom.specs.declared.rule.FillRule.{FillRule}
@@ -14,6 +14,9 @@ use Rattle.geom.specs.Outline.{points, rings}
 use Rattle.geom.specs.OutlineLaws.{cornerAt}
 use Rattle.geom.specs.Sewing.{flat}
 use Rattle.geom.specs.SewingLaws.{flat-length, flat-append}
+use Rattle.rules.specs.Calls.{sewnPoints, sewnEnds}
+use Rattle.patterns_rules.specs.Answers.{countOf}
+use Rattle.patterns_rules.specs.LineLaws.{ends-length}
 use Rattle.patterns_rules.specs.Patterns.{pieceInside}
 use Rattle.clip.specs.Clip.{added, ended, pointsFrom, endsFrom}
 use Rattle.clip.specs.ClipLaws.{points-step, ends-step, ends-stop}
@@ -62,3 +65,11 @@ module _ (l corners : List Float) (ends : List ℕ) (rule : FillRule) (on : Bool
 
   pub last-put : (y : List ℕ) → y ≡ put d s (ended false on at) → Front d₀ y (s + length (ended false on at)) [] whole
   last-put y w = front-whole (ended false on at) [] y last last-room w
+
+-- all is written: the places are the counts
+pub all-counted : (ls : List (List P)) {d₀ d : List Float} {e₀ e₁ : List ℕ} (m : List ℕ) (at s r : ℕ) → Front d₀ d (2 * at) [] (flat (sewnPoints ls)) → Front e₀ e₁ (s + length m) [] (sewnEnds 0 ls) → r ≡ length m → record { lines = s + r; points = at } ≡ countOf ls
+unfolding countOf
+all-counted ls m at s r f h e =
+    let x : s + r ≡ length ls = omega (arith, front-count h, ends-length 0 ls, e) in
+    let y : at ≡ length (sewnPoints ls) = omega (arith, front-count f, flat-length (sewnPoints ls)) in
+    rw (x, y)

@@ -1,17 +1,19 @@
 -- Point by point gives the points and the ends of the definition's runs. Assumes nothing.
-use Prim.Native.Nat.{ℕ, _+_, _≤_, _<_}
+use Prim.Native.Nat.{ℕ, _+_, _*_, _/_, _≤_, _<_}
 use native.Mathlib.Omega.{arith}
 use mathlib.Core.Path.{_≡_, refl, sym, ap, _∙_}
 use mathlib.Core.Bool.{Bool, true, false, cond}
+use mathlib.Core.Logic.{inl, inr}
 use mathlib.Core.List.{List, [], _∷_, _++_, append-assoc, append-nil}
 use lib.Dec.{ltb}
-use lib.ListN.{length, drop, length-append}
+use lib.ListN.{length, drop, length-append, length-drop}
 use lib.Ieee.{Float}
-use borrow.Author.Tests.{le-ltb}
+use borrow.Author.Tests.{le-ltb, ltb-true, ltb-false}
+use Rattle.seqs.specs.Tests.{either}
 use Rattle.geom.specs.declared.point.P.{P}
 use Rattle.geom.specs.declared.rule.FillRule.{FillRule}
 use Rattle.geom.specs.Outline.{points, rings}
-use Rattle.geom.specs.OutlineLaws.{cornerAt, points-next, points-end}
+use Rattle.geom.specs.OutlineLaws.{cornerAt, points-length, points-next, points-end}
 use Rattle.rules.specs.Calls.{sewnPoints, sewnEnds}
 use Rattle.patterns_rules.specs.Patterns.{pieceInside, closed, opened, runsFrom, clipInside}
 use Rattle.patterns_rules.specs.LineLaws.{ends-length}
@@ -76,6 +78,32 @@ module _ (rings : List (List P)) (rule : FillRule) where
   ends-are false cur h n p [] = rw (closed-off cur h)
   ends-are on cur h n p (q ∷ line) = ends-turn (pieceInside rings rule p q) on cur h n p q line (λ on cur h n. ends-are on cur h n q line)
 
+  -- each piece adds two points and closes one run at most
+  added-few : (k on : Bool) (p q : P) → length (added k on p q) ≤ 2
+  added-few true true p q = omega arith
+  added-few true false p q = omega arith
+  added-few false on p q = omega arith
+
+  ended-few : (k on : Bool) (n : ℕ) → length (ended k on n) ≤ 1
+  ended-few true on n = omega arith
+  ended-few false true n = omega arith
+  ended-few false false n = omega arith
+
+  points-few : (on : Bool) (p : P) (line : List P) → length (pointsFrom rings rule on p line) ≤ 2 * length line
+  unfolding pointsFrom
+  points-few on p [] = omega arith
+  points-few on p (q ∷ line) =
+      let k = pieceInside rings rule p q in
+      omega (arith, length-append (added k on p q) (pointsFrom rings rule k q line), added-few k on p q, points-few k q line)
+
+  ends-few : (on : Bool) (n : ℕ) (p : P) (line : List P) → length (endsFrom rings rule on n p line) ≤ length line + 1
+  unfolding endsFrom
+  ends-few on n p [] = omega (arith, ended-few false on n)
+  ends-few on n p (q ∷ line) =
+      let k = pieceInside rings rule p q in
+      let m = n + length (added k on p q) in
+      omega (arith, length-append (ended k on n) (endsFrom rings rule k m q line), ended-few k on n, ends-few k m q line)
+
 -- ---- the line as a flat list
 
 module _ (l : List Float) (corners : List Float) (ends : List ℕ) (rule : FillRule) where
@@ -96,6 +124,20 @@ module _ (l : List Float) (corners : List Float) (ends : List ℕ) (rule : FillR
 
     pub clip-lines : length (clipped l corners ends rule) ≡ length (endsFrom (rings corners ends) rule false 0 (cornerAt l 0) (points (drop 2 l)))
     clip-lines = sym (ends-length 0 (clipped l corners ends rule)) ∙ ap length clip-ends
+
+    -- so a line of n numbers has n points and n / 2 runs inside at most
+    pub clip-few : (length (sewnPoints (clipped l corners ends rule)) ≤ length l) × (length (clipped l corners ends rule) ≤ length l / 2)
+    clip-few =
+        let rest = points (drop 2 l) in
+        let n = points-length (drop 2 l) in
+        (omega (arith, ap length clip-points, points-few (rings corners ends) rule false (cornerAt l 0) rest, n, length-drop 2 l), omega (arith, clip-lines, ends-few (rings corners ends) rule false 0 (cornerAt l 0) rest, n, length-drop 2 l))
+
+  pub clip-most : (length (sewnPoints (clipped l corners ends rule)) ≤ length l) × (length (clipped l corners ends rule) ≤ length l / 2)
+  unfolding sewnPoints
+  clip-most = elim (either (ltb (length l) 2)) [
+    | inl e ↦ rw (clip-none (ltb-true (length l) 2 e)) (omega arith, omega arith)
+    | inr e ↦ clip-few (ltb-false (length l) 2 e)
+  ]
 
   module _ (on : Bool) (p : P) (i : ℕ) where
     module _ (h : i + 1 < length l) {k : Bool} {q : P} (e : q ≡ cornerAt l i) (t : k ≡ pieceInside (rings corners ends) rule p q) where

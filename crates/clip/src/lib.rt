@@ -135,7 +135,7 @@ fn put_ended(stops: &mut [usize], s: usize, kept: bool, on: bool, n: usize)
     }
 }
 
-// The runs to the front of out, and their ends, in points, to the front of stops.
+// The runs to the front of out, and their ends, in points, to the front of stops; answers how many.
 fn write(
     out: &mut [f64],
     stops: &mut [usize],
@@ -143,13 +143,16 @@ fn write(
     corners: &[f64],
     ends: &[usize],
     rule: FillRule,
-)
+) -> Count
     requires { ⌜ Layout (now corners) (now ends) × (length (flat (sewnPoints (clipped (now line) (now corners) (now ends) rule))) ≤ length (now out)) × (length (clipped (now line) (now corners) (now ends) rule) ≤ length (now stops)) ⌝ }
-    ensures { λ _. ⌜ (now (out .exit) ≡ leftPoints DONE (clipped (now (line .entry)) (now (corners .entry)) (now (ends .entry)) rule) (now (out .entry))) × (now (stops .exit) ≡ leftEnds DONE (clipped (now (line .entry)) (now (corners .entry)) (now (ends .entry)) rule) (now (stops .entry))) ⌝ }
+    ensures { λ r. ⌜ (r ≡ countOf (clipped (now (line .entry)) (now (corners .entry)) (now (ends .entry)) rule)) × (now (out .exit) ≡ leftPoints DONE (clipped (now (line .entry)) (now (corners .entry)) (now (ends .entry)) rule) (now (out .entry))) × (now (stops .exit) ≡ leftEnds DONE (clipped (now (line .entry)) (now (corners .entry)) (now (ends .entry)) rule) (now (stops .entry))) ⌝ }
 {
     let n = line.len();
     if n < 2 {
-        return;
+        return Count {
+            lines: 0,
+            points: 0,
+        };
     }
     let mut p = corner(line, 0);
     let mut was = point_inside(corners, ends, rule, p);
@@ -171,9 +174,13 @@ fn write(
         i += 2;
     }
     put_ended(stops, s, false, on, at);
+    Count {
+        lines: s + ended(false, on, at),
+        points: at,
+    }
 }
 
-// The runs and their ends, or ROOM and nothing.
+// The runs and their ends, or ROOM and nothing. Each piece adds two points and one run at most: where that has room, nothing is counted first.
 pub fn clip_inside(
     line: &[f64],
     corners: &[f64],
@@ -185,6 +192,17 @@ pub fn clip_inside(
     requires { ⌜ Layout (now corners) (now ends) ⌝ }
     ensures { λ r. ⌜ (r ≡ saidLines (roomFor (clipped (now (line .entry)) (now (corners .entry)) (now (ends .entry)) rule) (length (now (out .entry))) (length (now (stops .entry)))) (clipped (now (line .entry)) (now (corners .entry)) (now (ends .entry)) rule)) × (now (out .exit) ≡ leftPoints (roomFor (clipped (now (line .entry)) (now (corners .entry)) (now (ends .entry)) rule) (length (now (out .entry))) (length (now (stops .entry)))) (clipped (now (line .entry)) (now (corners .entry)) (now (ends .entry)) rule) (now (out .entry))) × (now (stops .exit) ≡ leftEnds (roomFor (clipped (now (line .entry)) (now (corners .entry)) (now (ends .entry)) rule) (length (now (out .entry))) (length (now (stops .entry)))) (clipped (now (line .entry)) (now (corners .entry)) (now (ends .entry)) rule) (now (stops .entry))) ⌝ }
 {
+    let n = line.len();
+    if n <= out.len() / 2 {
+        if n / 2 <= stops.len() {
+            let c = write(out, stops, line, corners, ends, rule);
+            return Lines {
+                answer: DONE,
+                lines: c.lines as u64,
+                points: c.points as u64,
+            };
+        }
+    }
     let c = count(line, corners, ends, rule);
     if c.points > out.len() / 2 {
         return Lines {

@@ -5,7 +5,7 @@ use mathlib.Core.Path.{_≡_, ap, _∙_}
 use mathlib.Core.List.{List, [], _∷_, _++_}
 use lib.ListN.{length, take, set}
 use lib.Ieee.{Float}
-use Rattle.seqs.specs.Front.{Front, front-at, front-room, front-push, front-room-block, front-whole}
+use Rattle.seqs.specs.Front.{Front, front-at, front-count, front-room, front-push, front-room-block, front-whole}
 use Rattle.seqs.specs.Slices.{put}
 use Rattle.seqs.specs.Wrote.{put-room, put-end}
 use Rattle.geom.specs.declared.point.P.{P}
@@ -15,6 +15,8 @@ use Rattle.geom.specs.SewingLaws.{flat-length, flat-append, points-room, points
 use Rattle.rules.specs.Calls.{sewnPoints, sewnEnds}
 use Rattle.patterns_rules.specs.declared.Grid.{Grid}
 use Rattle.patterns_rules.specs.declared.Run.{Run}
+use Rattle.patterns_rules.specs.declared.Count.{Count}
+use Rattle.patterns_rules.specs.Answers.{countOf}
 use Rattle.patterns_rules.specs.Patterns.{cellInside, outAndBack, rowLines, yAt}
 use Rattle.patterns_rules.specs.LineLaws.{ends-length, points-append, ends-append}
 use Rattle.cross.specs.Cells.{Next, linesIn}
@@ -114,3 +116,11 @@ module _ (rings : List (List P)) (rule : FillRule) (g : Grid) (r : ℕ) (more : 
     ends-put z e t n u w =
         let m : s + length (sewnEnds at row) ≡ t = omega (arith, ends-length at row) in
         rw (m, ← w) at (front-whole (sewnEnds at row) (sewnEnds (at + length (sewnPoints row)) below) z ends room-ends e)
+
+-- all is written: the places are the counts
+pub all-counted : (ls : List (List P)) {d₀ d : List Float} {e₀ e₁ : List ℕ} (done : Count) → Front d₀ d (2 * done .points) [] (flat (sewnPoints ls)) → Front e₀ e₁ (done .lines) [] (sewnEnds 0 ls) → done ≡ countOf ls
+unfolding countOf
+all-counted ls done f h =
+    let x : done .lines ≡ length ls = omega (arith, front-count h, ends-length 0 ls) in
+    let y : done .points ≡ length (sewnPoints ls) = omega (arith, front-count f, flat-length (sewnPoints ls)) in
+    rw (← x, ← y)

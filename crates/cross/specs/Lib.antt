@@ -4,3 +4,4 @@ pub mod BoundLaws
 pub mod GridLaws
 pub mod RunLaws
 pub mod RowLaws
+pub mod Most

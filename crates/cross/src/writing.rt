@@ -10,7 +10,7 @@ ghost use Rattle.geom.specs.Outline.{rings, Layout};
 ghost use Rattle.geom.specs.Sewing.{flat};
 ghost use Rattle.rules.specs.Calls.{sewnPoints, sewnEnds};
 ghost use Rattle.patterns_rules.specs.Patterns.{outOver, backOver, outAndBack, rowLines, stitched};
-ghost use Rattle.patterns_rules.specs.Answers.{leftPoints, leftEnds};
+ghost use Rattle.patterns_rules.specs.Answers.{countOf, leftPoints, leftEnds};
 ghost use Rattle.cross.specs.Cells.{Laid};
 use crate::cells::next_run;
 use crate::grid::x_at;
@@ -121,7 +121,7 @@ fn put_row(
     }
 }
 
-// All rows to the front of out, and where each ends, in points, to the front of stops.
+// All rows to the front of out, and where each ends, in points, to the front of stops; answers how many.
 pub fn write(
     out: &mut [f64],
     stops: &mut [usize],
@@ -129,9 +129,9 @@ pub fn write(
     ends: &[usize],
     rule: FillRule,
     g: Grid,
-)
+) -> Count
     requires { ⌜ Layout (now corners) (now ends) × Laid g × (length (flat (sewnPoints (stitched (rings (now corners) (now ends)) rule g))) ≤ length (now out)) × (length (stitched (rings (now corners) (now ends)) rule g) ≤ length (now stops)) ⌝ }
-    ensures { λ _. ⌜ (now (out .exit) ≡ leftPoints DONE (stitched (rings (now (corners .entry)) (now (ends .entry))) rule g) (now (out .entry))) × (now (stops .exit) ≡ leftEnds DONE (stitched (rings (now (corners .entry)) (now (ends .entry))) rule g) (now (stops .entry))) ⌝ }
+    ensures { λ r. ⌜ (r ≡ countOf (stitched (rings (now (corners .entry)) (now (ends .entry))) rule g)) × (now (out .exit) ≡ leftPoints DONE (stitched (rings (now (corners .entry)) (now (ends .entry))) rule g) (now (out .entry))) × (now (stops .exit) ≡ leftEnds DONE (stitched (rings (now (corners .entry)) (now (ends .entry))) rule g) (now (stops .entry))) ⌝ }
 {
     let n = g.rows;
     let mut done = Count {
@@ -143,4 +143,5 @@ pub fn write(
         done = put_row(out, stops, done, corners, ends, rule, g, y_at(g, r));
         r += 1;
     }
+    done
 }

@@ -1,6 +1,7 @@
 -- `write` meets its contract: the runs of the line from corner i on are still to be written. Assumes nothing.
 use native.Mathlib.Omega.{arith}
 use mathlib.Core.Path.{_≡_, refl, sym, ap, _∙_}
+use mathlib.Core.Bool.{false}
 use Prim.Native.Nat.{_+_, _-_, _*_, _^_, _≤_, _<_}
 use lib.ListN.{length, drop}
 use Rattle.seqs.specs.Front.{Front, front-start, front-at, front-end}
@@ -9,11 +10,11 @@ use Rattle.geom.specs.Inside.{pointInside}
 use Rattle.geom.specs.Sewing.{flat}
 use Rattle.geom.specs.SewingLaws.{flat-none}
 use Rattle.rules.specs.Calls.{sewnPoints, sewnEnds}
-use Rattle.patterns_rules.specs.Answers.{leftPoints, leftEnds}
+use Rattle.patterns_rules.specs.Answers.{countOf, leftPoints, leftEnds}
 use Rattle.patterns_rules.specs.LineLaws.{ends-length}
-use Rattle.clip.specs.Clip.{clipped, pointsFrom, endsFrom}
+use Rattle.clip.specs.Clip.{clipped, ended, pointsFrom, endsFrom}
 use Rattle.clip.specs.ClipLaws.{clip-none, clip-points, clip-ends, points-stop}
-use Rattle.clip.proofs.Turns.{added-room, added-put, ended-room, ended-put, last-room, last-put}
+use Rattle.clip.proofs.Turns.{added-room, added-put, ended-room, ended-put, last-room, last-put, all-counted}
 use borrow.Author.Needs.{needs}
 use Rattle.clip.proofs.write.Statement.{statement}
 use Rattle.clip.proofs.write.Tie as tie
@@ -25,8 +26,8 @@ abbrev μ-loop : tie.MeasureT-loop
 μ-loop out₀ stops₀ line corners ends rule n p₀ was₀ on₀ s₀ at₀ i₀ out stops p was on s at i = length line - i
 
 returns : tie.Need-returns Inv-loop μ-loop
-unfolding leftPoints leftEnds sewnPoints sewnEnds flat
-returns c = rw (clip-none (c .before .before .before .before .before .before .args .line .now) (c .before .before .before .before .before .before .args .corners .now) (c .before .before .before .before .before .before .args .ends .now) (c .before .before .before .before .before .before .args .rule) (search needs)) (refl, refl)
+unfolding countOf leftPoints leftEnds sewnPoints sewnEnds flat
+returns c = rw (clip-none (c .before .before .before .before .before .before .args .line .now) (c .before .before .before .before .before .before .args .corners .now) (c .before .before .before .before .before .before .args .ends .now) (c .before .before .before .before .before .before .args .rule) (search needs)) (refl, refl, refl)
 
 point-inside-requires : tie.Need-point-inside-requires Inv-loop μ-loop
 point-inside-requires c κs = c .before .before .before .before .before .before .before .pre .0
@@ -66,18 +67,23 @@ put-ended-requires-2 : tie.Need-put-ended-requires-2 Inv-loop μ-loop
 put-ended-requires-2 c κs = let a = c .before .before .before .before .before .before .before .before .before .before .before .args in let l = c .before .before .loop in
     last-room (a .line .now) (a .corners .now) (a .ends .now) (a .rule) (l .on) (l .p) (l .i) (l .at) (search needs) (l .inv .5) (omega (arith, c .before .before .before .before .before .before .before .before .before .before .before .pre .2, ends-length 0 (clipped (a .line .now) (a .corners .now) (a .ends .now) (a .rule))))
 
+add-t29 : tie.Need-add-t29 Inv-loop μ-loop
+add-t29 c = record { fits = omega (arith, c .ended2 .ensures .1, c .before .before .before .before .before .before .loop .inv .0, c .before .before .before .before .before .before .loop .inv .1, c .before .before .before .before .before .before .loop .inv .6) }
+
 same-length : tie.Need-same-length Inv-loop μ-loop
-same-length c = c .before .before .before .before .before .loop .inv .4 .len
+same-length c = c .before .before .before .before .before .before .loop .inv .4 .len
 
 same-length-2 : tie.Need-same-length-2 Inv-loop μ-loop
-same-length-2 c = let a = c .before .before .before .before .before .before .before .before .before .before .before .before .before .before .args in let l = c .before .before .before .before .before .loop in
-    last-put (a .line .now) (a .corners .now) (a .ends .now) (a .rule) (l .on) (l .p) (l .i) (l .at) (search needs) (l .inv .5) (omega (arith, c .before .before .before .before .before .before .before .before .before .before .before .before .before .before .pre .2, ends-length 0 (clipped (a .line .now) (a .corners .now) (a .ends .now) (a .rule)))) _ (c .before .before .put-ended2 .ensures) .len
+same-length-2 c = let a = c .before .before .before .before .before .before .before .before .before .before .before .before .before .before .before .args in let l = c .before .before .before .before .before .before .loop in
+    last-put (a .line .now) (a .corners .now) (a .ends .now) (a .rule) (l .on) (l .p) (l .i) (l .at) (search needs) (l .inv .5) (omega (arith, c .before .before .before .before .before .before .before .before .before .before .before .before .before .before .before .pre .2, ends-length 0 (clipped (a .line .now) (a .corners .now) (a .ends .now) (a .rule)))) _ (c .before .before .before .put-ended2 .ensures) .len
 
 returns-2 : tie.Need-returns-2 Inv-loop μ-loop
 unfolding leftPoints leftEnds
-returns-2 c = let a = c .before .before .before .before .before .before .before .before .before .before .before .before .before .before .args in let l = c .before .before .before .before .before .loop in
-    (front-end (front-at (flat-none (points-stop (a .line .now) (a .corners .now) (a .ends .now) (a .rule) (l .on) (l .p) (l .i) (search needs))) (l .inv .4)), front-end (last-put (a .line .now) (a .corners .now) (a .ends .now) (a .rule) (l .on) (l .p) (l .i) (l .at) (search needs) (l .inv .5) (omega (arith, c .before .before .before .before .before .before .before .before .before .before .before .before .before .before .pre .2, ends-length 0 (clipped (a .line .now) (a .corners .now) (a .ends .now) (a .rule)))) _ (c .before .before .put-ended2 .ensures)))
+returns-2 c = let a = c .before .before .before .before .before .before .before .before .before .before .before .before .before .before .before .args in let l = c .before .before .before .before .before .before .loop in
+    let x = front-at (flat-none (points-stop (a .line .now) (a .corners .now) (a .ends .now) (a .rule) (l .on) (l .p) (l .i) (search needs))) (l .inv .4) in
+    let y = last-put (a .line .now) (a .corners .now) (a .ends .now) (a .rule) (l .on) (l .p) (l .i) (l .at) (search needs) (l .inv .5) (omega (arith, c .before .before .before .before .before .before .before .before .before .before .before .before .before .before .before .pre .2, ends-length 0 (clipped (a .line .now) (a .corners .now) (a .ends .now) (a .rule)))) _ (c .before .before .before .put-ended2 .ensures) in
+    (all-counted (clipped (a .line .now) (a .corners .now) (a .ends .now) (a .rule)) (ended false (l .on) (l .at)) (l .at) (l .s) (c .ended2 .result) x y (c .ended2 .ensures .0), front-end x, front-end y)
 
 pub write-spec : {M : Type 1} → statement M
 write-spec =
-    tie.close (tie.spec Inv-loop μ-loop returns (λ c κs. search needs) point-inside-requires loop-holds (λ c. search needs) (λ c κs. search needs) point-inside-requires-2 piece-inside-requires put-ended-requires put-added-requires (λ c κs. search needs) add-s (λ c κs. search needs) add-at (λ c. search needs) (λ c. search needs) loop-again put-ended-requires-2 same-length same-length-2 returns-2)
+    tie.close (tie.spec Inv-loop μ-loop returns (λ c κs. search needs) point-inside-requires loop-holds (λ c. search needs) (λ c κs. search needs) point-inside-requires-2 piece-inside-requires put-ended-requires put-added-requires (λ c κs. search needs) add-s (λ c κs. search needs) add-at (λ c. search needs) (λ c. search needs) loop-again put-ended-requires-2 (λ c κs. search needs) add-t29 same-length same-length-2 returns-2)

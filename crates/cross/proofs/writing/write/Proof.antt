@@ -11,7 +11,7 @@ use Rattle.patterns_rules.specs.Patterns.{stitched}
 use Rattle.patterns_rules.specs.Answers.{leftPoints, leftEnds}
 use Rattle.patterns_rules.specs.LineLaws.{ends-length}
 use Rattle.cross.specs.RowLaws.{rowsIn, rows-start, rows-none}
-use Rattle.cross.proofs.Turns.{row-room, row-put, ends-room, ends-put}
+use Rattle.cross.proofs.Turns.{row-room, row-put, ends-room, ends-put, all-counted}
 use borrow.Author.Needs.{needs}
 use Rattle.cross.proofs.writing.write.Statement.{statement}
 use Rattle.cross.proofs.writing.write.Tie as tie
@@ -49,7 +49,9 @@ returns : tie.Need-returns Inv-loop μ-loop
 unfolding leftPoints leftEnds sewnPoints sewnEnds flat
 returns c = let a = c .before .before .before .before .before .before .args in let l = c .before .loop in
     let n = rows-none (rings (a .corners .now) (a .ends .now)) (a .rule) (a .g) (l .r) (search needs) in
-    (front-end (front-at (ap (λ ls. flat (sewnPoints ls)) n) (l .inv .1)), front-end (front-at (ap (sewnEnds (l .done .points)) n) (l .inv .2)))
+    let x = front-at (ap (λ ls. flat (sewnPoints ls)) n) (l .inv .1) in
+    let y = front-at (ap (sewnEnds (l .done .points)) n) (l .inv .2) in
+    (all-counted (stitched (rings (a .corners .now) (a .ends .now)) (a .rule) (a .g)) (l .done) x y, front-end x, front-end y)
 
 pub write-spec : {M : Type 1} → statement M
 write-spec =
