@@ -71,7 +71,8 @@ pub fn next_run(corners: &[f64], ends: &[usize], rule: FillRule, g: Grid, y: f64
     let a = first_inside(corners, ends, rule, g, y, i);
     let n = g.columns;
     if a < n {
-        let b = first_outside(corners, ends, rule, g, y, a + 1);
+        let from = a + 1;
+        let b = first_outside(corners, ends, rule, g, y, from);
         return Run {
             first: a,
             many: b - a,

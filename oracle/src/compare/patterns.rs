@@ -121,8 +121,15 @@ struct Room {
     stops: usize,
 }
 
-/// Enough, just enough, just not, or none, of either.
+/// Enough, just enough, just not, or none, of either; or so much of both that
+/// ours counts nothing first.
 fn room(rng: &mut Rng, made: &[Polyline]) -> Room {
+    if rng.one_in(3) {
+        return Room {
+            floats: 2 * made.concat().len() + 4_600,
+            stops: made.len() + 576,
+        };
+    }
     let near = |rng: &mut Rng, need: usize, part: usize| match rng.below(12) {
         0 => need.saturating_sub(1),
         1 => need.saturating_sub(part),
@@ -188,7 +195,7 @@ fn gave_lines(room: Room, call: impl FnOnce(Lent) -> u64) -> WrittenLines {
 /// Ours with slices that are lent again and again, as a caller would; the Rust
 /// makes new lists for each call.
 fn lent<I>(call: impl Fn(&I, Lent) -> u64) -> impl Fn(&I) -> u64 {
-    let slices = RefCell::new((vec![0.0; 4_000_000], vec![0; 200_000]));
+    let slices = RefCell::new((vec![0.0; 4_000_000], vec![0; 300_000]));
     move |input| {
         let (out, stops) = &mut *slices.borrow_mut();
         call(

@@ -12,9 +12,6 @@ first-inside-requires c κs = c .before .before .pre
 first-outside-requires : tie.Need-first-outside-requires
 first-outside-requires c κs = (c .before .before .before .before .pre .0, c .before .before .before .before .pre .1, search needs)
 
-sub-t11 : tie.Need-sub-t11
-sub-t11 c = omega (arith, c .first-outside .ensures .low)
-
 returns : tie.Need-returns
 returns c = let a = c .before .before .before .before .before .args in next-run (cellInside (rings (a .corners .now) (a .ends .now)) (a .rule) (a .g) (a .y)) (a .g .columns) (c .before .before .first-inside .ensures) (search needs) (c .first-outside .ensures)
 
@@ -23,4 +20,4 @@ returns-2 c = let a = c .before .before .before .before .args in next-none (cell
 
 pub next-run-spec : {M : Type 1} → statement M
 next-run-spec =
-    tie.close (tie.spec first-inside-requires (λ c. search needs) first-outside-requires sub-t11 returns returns-2)
+    tie.close (tie.spec first-inside-requires (λ c. search needs) first-outside-requires (λ c. search needs) returns returns-2)
