@@ -15,6 +15,9 @@ use std::cell::RefCell;
 use zigzag::geom::{FillRule, P, Polyline};
 use zigzag::patterns;
 
+/// More floats than any of the timed calls can fill.
+const PLENTY: usize = 4_000_000;
+
 const UNLIKE_ZEROS: &str = "zeros of unlike sign";
 
 pub fn functions() -> Vec<Function> {
@@ -194,8 +197,8 @@ fn gave_lines(room: Room, call: impl FnOnce(Lent) -> u64) -> WrittenLines {
 
 /// Ours with slices that are lent again and again, as a caller would; the Rust
 /// makes new lists for each call.
-fn lent<I>(call: impl Fn(&I, Lent) -> u64) -> impl Fn(&I) -> u64 {
-    let slices = RefCell::new((vec![0.0; 4_000_000], vec![0; 300_000]));
+fn lent<I>(floats: usize, call: impl Fn(&I, Lent) -> u64) -> impl Fn(&I) -> u64 {
+    let slices = RefCell::new((vec![0.0; floats], vec![0; 300_000]));
     move |input| {
         let (out, stops) = &mut *slices.borrow_mut();
         call(
@@ -318,9 +321,12 @@ fn clip_inside() -> Function {
             (o, rings, line, pts)
         },
         |(_, rings, _, pts)| patterns::clip_inside(pts, rings, FillRule::NonZero),
-        lent(|(o, _, line, _): &(Outline, _, Vec<f64>, _), lent| {
-            ours::clip_inside(line, o, FillRule::NonZero, lent)
-        }),
+        lent(
+            PLENTY,
+            |(o, _, line, _): &(Outline, _, Vec<f64>, _), lent| {
+                ours::clip_inside(line, o, FillRule::NonZero, lent)
+            },
+        ),
     )
 }
 
@@ -400,13 +406,20 @@ fn cross_stitch() -> Function {
         20,
         |rng| badges::crest(rng, 100.0, 100.0, 60),
         |(_, rings, cell)| patterns::cross_stitch(rings, FillRule::NonZero, *cell),
-        lent(of),
+        lent(PLENTY, of),
+    )
+    .timed_as(
+        "cross_stitch counted",
+        20,
+        |rng| badges::crest(rng, 100.0, 100.0, 60),
+        |(_, rings, cell)| patterns::cross_stitch(rings, FillRule::NonZero, *cell),
+        lent(8 * 100 * 100 - 1, of),
     )
     .timed_as(
         "cross_stitch 4096 x 64",
         4,
         |rng| badges::crest(rng, 4096.0, 64.0, 200),
         |(_, rings, cell)| patterns::cross_stitch(rings, FillRule::NonZero, *cell),
-        lent(of),
+        lent(PLENTY, of),
     )
 }
