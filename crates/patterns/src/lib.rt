@@ -15,6 +15,7 @@ use geom::limits::good_numbers;
 use geom::limits::good_outline;
 use patterns_rules::Bounds;
 use patterns_rules::Lines;
+use patterns_rules::MOST_CELLS;
 use refusal::LAYOUT;
 use refusal::NUMBER;
 use refusal::SETTING;
@@ -95,10 +96,10 @@ pub fn cross_stitch(
         return refused(SETTING);
     }
     let g = grid_of(corners, cell);
-    if g.columns > 4096 {
+    if g.columns > MOST_CELLS {
         return refused(SIZE);
     }
-    if g.rows > 4096 {
+    if g.rows > MOST_CELLS {
         return refused(SIZE);
     }
     on_grid(corners, ends, rule, g, out, stops)
