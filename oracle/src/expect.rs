@@ -28,6 +28,8 @@ mod limits {
     pub const SHRINK: RangeInclusive<f64> = -100.0..=100.0; // inset and pull
     pub const STAGGER: RangeInclusive<u64> = 0..=1000;
     pub const ROWS: i64 = 4096;
+    pub const CELL: RangeInclusive<f64> = 1.0..=1000.0;
+    pub const CELLS: f64 = 4096.0;
 
     /// The number of the first check that doesn't hold, in the table's order.
     pub fn first(checks: &[(u64, bool)]) -> u64 {
@@ -56,6 +58,18 @@ mod limits {
     pub fn turn(c: f64, s: f64) -> bool {
         let square = c * c + s * s;
         c.is_finite() && s.is_finite() && (0.999999..=1.000001).contains(&square)
+    }
+
+    /// Cells run from floor to ceiling, the upper end excluded: at most 4,096
+    /// either way. Asked of accepted corners only, whose cells are small whole numbers.
+    pub fn cells(corners: &[f64], cell: f64) -> bool {
+        let across = |from: usize| {
+            let list = || corners.iter().skip(from).step_by(2).copied();
+            let lo = list().fold(f64::INFINITY, f64::min);
+            let hi = list().fold(f64::NEG_INFINITY, f64::max);
+            (hi / cell).ceil() - (lo / cell).floor()
+        };
+        across(0) <= CELLS && across(1) <= CELLS
     }
 
     /// How many points `resample_keep_corners` gives, without making them: a

@@ -472,3 +472,117 @@ pub mod fill {
         }
     }
 }
+
+/// Bounds, clipping and cross stitch.
+pub mod patterns {
+    use crate::inputs::outlines::Outline;
+    use zigzag::geom::FillRule;
+
+    unsafe extern "C" {
+        fn beahcerot_bounds(
+            corners: *const f64,
+            corners_len: usize,
+            ends: *const u64,
+            ends_len: usize,
+            left: *mut f64,
+            top: *mut f64,
+            right: *mut f64,
+            bottom: *mut f64,
+        ) -> u64;
+        fn beahcerot_clip_inside(
+            line: *const f64,
+            line_len: usize,
+            corners: *const f64,
+            corners_len: usize,
+            ends: *const u64,
+            ends_len: usize,
+            rule: u64,
+            out: *mut f64,
+            out_len: usize,
+            stops: *mut u64,
+            stops_len: usize,
+            lines: *mut u64,
+            points: *mut u64,
+        ) -> u64;
+        fn beahcerot_cross_stitch(
+            corners: *const f64,
+            corners_len: usize,
+            ends: *const u64,
+            ends_len: usize,
+            rule: u64,
+            cell: f64,
+            out: *mut f64,
+            out_len: usize,
+            stops: *mut u64,
+            stops_len: usize,
+            lines: *mut u64,
+            points: *mut u64,
+        ) -> u64;
+    }
+
+    /// The lent slices and counts of a call that writes lines.
+    pub struct Lent<'a> {
+        pub out: &'a mut [f64],
+        pub stops: &'a mut [u64],
+        pub lines: &'a mut u64,
+        pub points: &'a mut u64,
+    }
+
+    pub fn bounds(o: &Outline, value: &mut [f64; 4]) -> u64 {
+        let (c, e) = (&o.corners, &o.ends);
+        let [left, top, right, bottom] = value;
+        unsafe {
+            beahcerot_bounds(
+                c.as_ptr(),
+                c.len(),
+                e.as_ptr(),
+                e.len(),
+                left,
+                top,
+                right,
+                bottom,
+            )
+        }
+    }
+
+    pub fn clip_inside(line: &[f64], o: &Outline, rule: FillRule, lent: Lent) -> u64 {
+        let (c, e, rule) = (&o.corners, &o.ends, rule as u64);
+        unsafe {
+            beahcerot_clip_inside(
+                line.as_ptr(),
+                line.len(),
+                c.as_ptr(),
+                c.len(),
+                e.as_ptr(),
+                e.len(),
+                rule,
+                lent.out.as_mut_ptr(),
+                lent.out.len(),
+                lent.stops.as_mut_ptr(),
+                lent.stops.len(),
+                lent.lines,
+                lent.points,
+            )
+        }
+    }
+
+    pub fn cross_stitch(o: &Outline, rule: FillRule, cell: f64, lent: Lent) -> u64 {
+        let (c, e, rule) = (&o.corners, &o.ends, rule as u64);
+        unsafe {
+            beahcerot_cross_stitch(
+                c.as_ptr(),
+                c.len(),
+                e.as_ptr(),
+                e.len(),
+                rule,
+                cell,
+                lent.out.as_mut_ptr(),
+                lent.out.len(),
+                lent.stops.as_mut_ptr(),
+                lent.stops.len(),
+                lent.lines,
+                lent.points,
+            )
+        }
+    }
+}

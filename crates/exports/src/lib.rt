@@ -4,3 +4,4 @@ pub mod fill;
 pub mod geometry;
 pub mod line;
 pub mod number;
+pub mod pattern;

@@ -5,6 +5,7 @@
 pub mod fill;
 pub mod geom;
 pub mod leaves;
+pub mod patterns;
 mod records;
 pub mod stroke;
 
@@ -118,9 +119,8 @@ impl Function {
         rust: impl Fn(&I) -> A + 'static,
         ours: impl Fn(&I) -> B + 'static,
     ) -> Function {
-        let label = self.name.to_string();
-        let many = move |rng: &mut Rng| (0..1000).map(|_| make(rng)).collect();
-        self.timed_on(label, many, rust, ours)
+        let name = self.name;
+        self.timed_as(name, 1000, make, rust, ours)
     }
 
     /// The same on a list of inputs, under a label: a function may have several.
@@ -137,6 +137,19 @@ impl Function {
             run: Box::new(run),
         });
         self
+    }
+
+    /// The same over so many made inputs.
+    pub fn timed_as<I, A, B>(
+        self,
+        label: &str,
+        inputs: usize,
+        make: impl Fn(&mut Rng) -> I + 'static,
+        rust: impl Fn(&I) -> A + 'static,
+        ours: impl Fn(&I) -> B + 'static,
+    ) -> Function {
+        let many = move |rng: &mut Rng| (0..inputs).map(|_| make(rng)).collect();
+        self.timed_on(label.to_string(), many, rust, ours)
     }
 
     /// Prints the function's line, and its differences if there are any.
@@ -391,9 +404,9 @@ impl<const N: usize> Operands for [f64; N] {
     }
 }
 
-impl Outcome for [f64; 2] {
+impl<const N: usize> Outcome for [f64; N] {
     fn same(&self, other: &Self) -> bool {
-        self[0].same(&other[0]) && self[1].same(&other[1])
+        self.iter().zip(other).all(|(a, b)| a.same(b))
     }
     fn show(&self) -> String {
         list(self)
@@ -429,6 +442,38 @@ impl Outcome for Written {
     }
 }
 
+/// A call that writes lines to two lent slices: their points, x before y, and
+/// where each ends, in points.
+pub struct WrittenLines {
+    pub answer: u64,
+    pub lines: u64,
+    pub points: u64,
+    pub out: Vec<f64>,
+    pub stops: Vec<u64>,
+}
+
+impl Outcome for WrittenLines {
+    fn same(&self, other: &Self) -> bool {
+        (self.answer, self.lines, self.points) == (other.answer, other.lines, other.points)
+            && self.stops == other.stops
+            && self.out.len() == other.out.len()
+            && self.out.iter().zip(&other.out).all(|(a, b)| a.same(b))
+    }
+    fn show(&self) -> String {
+        format!(
+            "answer {} lines {} points {} out {} stops {:x?}",
+            self.answer,
+            self.lines,
+            self.points,
+            list(&self.out),
+            self.stops
+        )
+    }
+    fn answer(&self) -> Option<u64> {
+        Some(self.answer)
+    }
+}
+
 /// A group's name, its functions, and its replay list if it has one.
 pub struct Group {
     pub name: &'static str,
@@ -457,6 +502,11 @@ pub fn groups() -> Vec<Group> {
             name: "fill",
             functions: fill::functions(),
             replay: Some(fill::replay),
+        },
+        Group {
+            name: "patterns",
+            functions: patterns::functions(),
+            replay: None,
         },
     ]
 }

@@ -1,5 +1,6 @@
 //! What the calls are made of.
 
+pub mod badges;
 pub mod boundaries;
 pub mod crests;
 pub mod fills;

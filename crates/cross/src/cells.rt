@@ -1,0 +1,82 @@
+// The cells of a row whose centres are inside, run by run.
+ghost use mathlib.Core.Path.{_≡_};
+ghost use Prim.Native.Nat.{_≤_, _<_};
+ghost use Rattle.geom.specs.Outline.{rings, Layout};
+ghost use Rattle.patterns_rules.specs.Patterns.{cellInside};
+ghost use Rattle.cross.specs.Cells.{Laid, First, Stop, Next};
+use crate::grid::x_at;
+use geom::FillRule;
+use geom::P;
+use geom::inside::point_inside;
+use patterns_rules::Grid;
+use patterns_rules::Run;
+
+// Whether the centre of cell i in the row at y is inside.
+fn cell_inside(corners: &[f64], ends: &[usize], rule: FillRule, g: Grid, y: f64, i: usize) -> bool
+    requires { ⌜ Layout (now corners) (now ends) × Laid g × (i < g .columns) ⌝ }
+    ensures { λ r. ⌜ r ≡ cellInside (rings (now (corners .entry)) (now (ends .entry))) rule g y i ⌝ }
+{
+    let p = P {
+        x: x_at(g, i) + g.cell * 0.5,
+        y: y + g.cell * 0.5,
+    };
+    point_inside(corners, ends, rule, p)
+}
+
+// The first cell from i on that is inside.
+fn first_inside(corners: &[f64], ends: &[usize], rule: FillRule, g: Grid, y: f64, i: usize) -> usize
+    requires { ⌜ Layout (now corners) (now ends) × Laid g × (i ≤ g .columns) ⌝ }
+    ensures { λ r. ⌜ First (cellInside (rings (now (corners .entry)) (now (ends .entry))) rule g y) (g .columns) i r ⌝ }
+{
+    let n = g.columns;
+    let mut j = i;
+    while j < n {
+        if cell_inside(corners, ends, rule, g, y, j) {
+            return j;
+        }
+        j += 1;
+    }
+    j
+}
+
+// The first cell from i on that isn't.
+fn first_outside(
+    corners: &[f64],
+    ends: &[usize],
+    rule: FillRule,
+    g: Grid,
+    y: f64,
+    i: usize,
+) -> usize
+    requires { ⌜ Layout (now corners) (now ends) × Laid g × (i ≤ g .columns) ⌝ }
+    ensures { λ r. ⌜ Stop (cellInside (rings (now (corners .entry)) (now (ends .entry))) rule g y) (g .columns) i r ⌝ }
+{
+    let n = g.columns;
+    let mut j = i;
+    while j < n {
+        if cell_inside(corners, ends, rule, g, y, j) {
+            j += 1;
+            continue;
+        }
+        return j;
+    }
+    j
+}
+
+// The next run from i on; with none left its count is 0.
+pub fn next_run(corners: &[f64], ends: &[usize], rule: FillRule, g: Grid, y: f64, i: usize) -> Run
+    requires { ⌜ Layout (now corners) (now ends) × Laid g × (i ≤ g .columns) ⌝ }
+    ensures { λ r. ⌜ Next (cellInside (rings (now (corners .entry)) (now (ends .entry))) rule g y) (g .columns) i r ⌝ }
+{
+    let a = first_inside(corners, ends, rule, g, y, i);
+    let n = g.columns;
+    if a < n {
+        let from = a + 1;
+        let b = first_outside(corners, ends, rule, g, y, from);
+        return Run {
+            first: a,
+            many: b - a,
+        };
+    }
+    Run { first: a, many: 0 }
+}

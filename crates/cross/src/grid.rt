@@ -1,0 +1,123 @@
+// The bounds of an outline, and the cells within them.
+ghost use mathlib.Core.Path.{_≡_};
+ghost use mathlib.Core.Bool.{true};
+ghost use Prim.Native.Nat.{_^_, _<_};
+ghost use lib.IntN.{natAbs, _-ℤ_};
+ghost use lib.Signed.{ltZ};
+ghost use Rattle.seqs.specs.Slices.{capped};
+ghost use Rattle.geom.specs.Outline.{points};
+ghost use Rattle.geom.specs.Limits.{mostCells};
+ghost use Rattle.patterns_rules.specs.Patterns.{upTo, gridIn, xAt, yAt};
+ghost use Rattle.cross.specs.Cells.{boundsOf, stopped, Laid};
+use leaves::ceil;
+use leaves::floor;
+use leaves::is_finite;
+use leaves::larger;
+use leaves::of_i64;
+use leaves::smaller;
+use leaves::to_i64;
+use patterns_rules::Bounds;
+use patterns_rules::Grid;
+
+// With no corners, plus infinity below and minus infinity above.
+pub fn bounds(corners: &[f64]) -> Bounds
+    ensures { λ r. ⌜ r ≡ boundsOf (points (now (corners .entry))) ⌝ }
+{
+    let mut left = f64::from_bits(9218868437227405312);
+    let mut top = f64::from_bits(9218868437227405312);
+    let mut right = f64::from_bits(18442240474082181120);
+    let mut bottom = f64::from_bits(18442240474082181120);
+    let mut i = 0;
+    while i + 1 < corners.len() {
+        let x = corners[i];
+        let y = corners[i + 1];
+        left = smaller(left, x);
+        top = smaller(top, y);
+        right = larger(right, x);
+        bottom = larger(bottom, y);
+        i += 2;
+    }
+    Bounds {
+        left: left,
+        top: top,
+        right: right,
+        bottom: bottom,
+    }
+}
+
+// hi - lo, or 4,097 where it is more than 4,096.
+fn from_to(lo: i64, hi: i64) -> usize
+    requires { ⌜ (ltZ lo hi ≡ true) × (natAbs (hi -ℤ lo) < 2 ^ 63) ⌝ }
+    ensures { λ r. ⌜ r ≡ capped mostCells (upTo lo hi) ⌝ }
+{
+    let d = (hi - lo) as usize;
+    if d <= 4096 {
+        return d;
+    }
+    4097
+}
+
+// How many from lo up to hi, or 4,097 where there are more than 4,096: a difference is worked out only where it can't wrap.
+fn how_many(lo: i64, hi: i64) -> usize
+    ensures { λ r. ⌜ r ≡ capped mostCells (upTo lo hi) ⌝ }
+{
+    if lo < hi {
+        if hi < 0 {
+            return from_to(lo, hi);
+        }
+        if lo < 0 {
+            if lo < -4096 {
+                return 4097;
+            }
+            if 4096 < hi {
+                return 4097;
+            }
+            return from_to(lo, hi);
+        }
+        return from_to(lo, hi);
+    }
+    0
+}
+
+// The cells within these corners, either count stopped past 4,096.
+pub fn grid_of(corners: &[f64], cell: f64) -> Grid
+    ensures { λ r. ⌜ r ≡ stopped (gridIn (boundsOf (points (now (corners .entry)))) cell) ⌝ }
+{
+    let b = bounds(corners);
+    let left = to_i64(floor(b.left / cell));
+    let top = to_i64(floor(b.top / cell));
+    if is_finite(b.left) {
+        let columns = how_many(left, to_i64(ceil(b.right / cell)));
+        let rows = how_many(top, to_i64(ceil(b.bottom / cell)));
+        return Grid {
+            cell: cell,
+            left: left,
+            columns: columns,
+            top: top,
+            rows: rows,
+        };
+    }
+    Grid {
+        cell: cell,
+        left: left,
+        columns: 0,
+        top: top,
+        rows: 0,
+    }
+}
+
+// The left side of column i.
+pub fn x_at(g: Grid, i: usize) -> f64
+    requires { ⌜ Laid g × (i < g .columns) ⌝ }
+    ensures { λ x. ⌜ x ≡ xAt g i ⌝ }
+{
+    of_i64(g.left + (i as i64)) * g.cell
+}
+
+// The upper side of row r.
+pub fn y_at(g: Grid, r: usize) -> f64
+    requires { ⌜ Laid g × (r < g .rows) ⌝ }
+    ensures { λ y. ⌜ y ≡ yAt g r ⌝ }
+{
+    of_i64(g.top + (r as i64)) * g.cell
+}
