@@ -3,7 +3,7 @@ ghost use mathlib.Core.Path.{_≡_};
 ghost use Rattle.tatami.specs.Left.{left, leftList, tatamiLeft, rowListLeft};
 ghost use Rattle.exports.specs.Stored.{ruleOf};
 ghost use Rattle.exports.specs.Fills.{settings, filled, listed};
-use crate::geometry::rule_of;
+use crate::shape::rule_of;
 use rules::Settings;
 
 #[no_mangle]

@@ -4,7 +4,7 @@ ghost use lib.ListN.{length};
 ghost use Rattle.patterns_rules.specs.Answers.{boundsAnswer, clipSaid, clipPoints, clipEnds, crossSaid, crossPoints, crossEnds};
 ghost use Rattle.patterns.specs.Said.{saidBox};
 ghost use Rattle.exports.specs.Stored.{firstOr, ruleOf};
-use crate::geometry::rule_of;
+use crate::shape::rule_of;
 use patterns::Box;
 use refusal::DONE;
 

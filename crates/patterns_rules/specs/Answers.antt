@@ -12,7 +12,7 @@ use Rattle.geom.specs.declared.rule.FillRule.{FillRule}
 use Rattle.geom.specs.Outline.{points, rings}
 use Rattle.geom.specs.Limits.{mostCells, goodNumbers, goodOutline, goodLine, goodCell}
 use Rattle.geom.specs.Sewing.{flat}
-use Rattle.geom.specs.Answers.{outline}
+use Rattle.geometry.specs.Answers.{outline}
 use Rattle.rules.specs.Calls.{sewnPoints, sewnEnds}
 use Rattle.patterns_rules.specs.declared.Bounds.{Bounds}
 use Rattle.patterns_rules.specs.declared.Grid.{Grid}

@@ -1,6 +1,6 @@
 use borrow.Author.Needs.{needs}
-use Rattle.exports.proofs.geometry.beahcerot_rotate.Statement.{statement}
-use Rattle.exports.proofs.geometry.beahcerot_rotate.Tie as tie
+use Rattle.exports.proofs.shape.beahcerot_rotate.Statement.{statement}
+use Rattle.exports.proofs.shape.beahcerot_rotate.Tie as tie
 
 returns : tie.Need-returns
 returns c = rw (c .before .before .before .rotate .ensures) at (c .store-spot .ensures)

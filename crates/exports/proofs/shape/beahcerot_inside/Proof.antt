@@ -4,8 +4,8 @@ use mir.ValLaws.{toZ-ofZ}
 use Rattle.exports.specs.Stored.{bit, ruleOf}
 use Rattle.geom.specs.Inside.{inside}
 use borrow.Author.Needs.{needs}
-use Rattle.exports.proofs.geometry.beahcerot_inside.Statement.{statement}
-use Rattle.exports.proofs.geometry.beahcerot_inside.Tie as tie
+use Rattle.exports.proofs.shape.beahcerot_inside.Statement.{statement}
+use Rattle.exports.proofs.shape.beahcerot_inside.Tie as tie
 
 returns : tie.Need-returns
 returns c = c .bit .ensures ∙ ap bit ((rw (c .before .before .rule-of .ensures) at (c .before .inside .ensures)) ∙ ap (inside (ruleOf (c .before .before .before .args .rule))) (toZ-ofZ w64 (c .before .before .before .args .winding) (c .before .before .before .fits .winding)))

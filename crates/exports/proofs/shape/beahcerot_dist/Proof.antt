@@ -1,6 +1,6 @@
 use borrow.Author.Needs.{needs}
-use Rattle.exports.proofs.geometry.beahcerot_dist.Statement.{statement}
-use Rattle.exports.proofs.geometry.beahcerot_dist.Tie as tie
+use Rattle.exports.proofs.shape.beahcerot_dist.Statement.{statement}
+use Rattle.exports.proofs.shape.beahcerot_dist.Tie as tie
 
 returns : tie.Need-returns
 returns c = rw (c .before .before .dist .ensures) at (c .store .ensures)

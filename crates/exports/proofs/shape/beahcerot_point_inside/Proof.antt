@@ -1,6 +1,6 @@
 use borrow.Author.Needs.{needs}
-use Rattle.exports.proofs.geometry.beahcerot_point_inside.Statement.{statement}
-use Rattle.exports.proofs.geometry.beahcerot_point_inside.Tie as tie
+use Rattle.exports.proofs.shape.beahcerot_point_inside.Statement.{statement}
+use Rattle.exports.proofs.shape.beahcerot_point_inside.Tie as tie
 
 returns : tie.Need-returns
 returns c = rw (c .before .before .before .rule-of .ensures) at (rw (c .before .before .point-inside .ensures) at (c .store-truth .ensures))

@@ -1,6 +1,6 @@
 use borrow.Author.Needs.{needs}
-use Rattle.exports.proofs.geometry.beahcerot_winding.Statement.{statement}
-use Rattle.exports.proofs.geometry.beahcerot_winding.Tie as tie
+use Rattle.exports.proofs.shape.beahcerot_winding.Statement.{statement}
+use Rattle.exports.proofs.shape.beahcerot_winding.Tie as tie
 
 returns : tie.Need-returns
 returns c = rw (c .before .before .winding .ensures) at (c .store-wound .ensures)

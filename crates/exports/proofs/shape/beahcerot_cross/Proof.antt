@@ -1,6 +1,6 @@
 use borrow.Author.Needs.{needs}
-use Rattle.exports.proofs.geometry.beahcerot_cross.Statement.{statement}
-use Rattle.exports.proofs.geometry.beahcerot_cross.Tie as tie
+use Rattle.exports.proofs.shape.beahcerot_cross.Statement.{statement}
+use Rattle.exports.proofs.shape.beahcerot_cross.Tie as tie
 
 returns : tie.Need-returns
 returns c = rw (c .before .before .cross .ensures) at (c .store .ensures)

@@ -1,6 +1,6 @@
 use borrow.Author.Needs.{needs}
-use Rattle.exports.proofs.geometry.beahcerot_norm.Statement.{statement}
-use Rattle.exports.proofs.geometry.beahcerot_norm.Tie as tie
+use Rattle.exports.proofs.shape.beahcerot_norm.Statement.{statement}
+use Rattle.exports.proofs.shape.beahcerot_norm.Tie as tie
 
 returns : tie.Need-returns
 returns c = rw (c .before .before .before .norm .ensures) at (c .store-spot .ensures)

@@ -1,6 +1,6 @@
 use borrow.Author.Needs.{needs}
-use Rattle.exports.proofs.geometry.beahcerot_dot.Statement.{statement}
-use Rattle.exports.proofs.geometry.beahcerot_dot.Tie as tie
+use Rattle.exports.proofs.shape.beahcerot_dot.Statement.{statement}
+use Rattle.exports.proofs.shape.beahcerot_dot.Tie as tie
 
 returns : tie.Need-returns
 returns c = rw (c .before .before .dot .ensures) at (c .store .ensures)

@@ -1,7 +1,7 @@
 use borrow.Author.Tests.{eq-eqb, ne-eqb}
 use borrow.Author.Needs.{needs}
-use Rattle.exports.proofs.geometry.rule_of.Statement.{statement}
-use Rattle.exports.proofs.geometry.rule_of.Tie as tie
+use Rattle.exports.proofs.shape.rule_of.Statement.{statement}
+use Rattle.exports.proofs.shape.rule_of.Tie as tie
 
 returns : tie.Need-returns
 returns c = rw (eq-eqb _ 0 (c .if1 .taken))

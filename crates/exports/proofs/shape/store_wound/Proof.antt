@@ -2,8 +2,8 @@ use mathlib.Core.Path.{refl}
 use mir.Syntax.{w64}
 use mir.ValLaws.{toZ-ofZ}
 use borrow.Author.Needs.{needs}
-use Rattle.exports.proofs.geometry.store_wound.Statement.{statement}
-use Rattle.exports.proofs.geometry.store_wound.Tie as tie
+use Rattle.exports.proofs.shape.store_wound.Statement.{statement}
+use Rattle.exports.proofs.shape.store_wound.Tie as tie
 
 returns : tie.Need-returns
 returns c = rw (c .before .w .given .1) (refl, toZ-ofZ w64 (c .before .w .given .0 .0) (record { sfits = c .known-told .given .0 .1 }))

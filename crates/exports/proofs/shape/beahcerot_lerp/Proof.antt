@@ -1,6 +1,6 @@
 use borrow.Author.Needs.{needs}
-use Rattle.exports.proofs.geometry.beahcerot_lerp.Statement.{statement}
-use Rattle.exports.proofs.geometry.beahcerot_lerp.Tie as tie
+use Rattle.exports.proofs.shape.beahcerot_lerp.Statement.{statement}
+use Rattle.exports.proofs.shape.beahcerot_lerp.Tie as tie
 
 returns : tie.Need-returns
 returns c = rw (c .before .before .before .lerp .ensures) at (c .store-spot .ensures)

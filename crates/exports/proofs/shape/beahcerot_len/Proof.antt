@@ -1,6 +1,6 @@
 use borrow.Author.Needs.{needs}
-use Rattle.exports.proofs.geometry.beahcerot_len.Statement.{statement}
-use Rattle.exports.proofs.geometry.beahcerot_len.Tie as tie
+use Rattle.exports.proofs.shape.beahcerot_len.Statement.{statement}
+use Rattle.exports.proofs.shape.beahcerot_len.Tie as tie
 
 returns : tie.Need-returns
 returns c = rw (c .before .before .len .ensures) at (c .store .ensures)
