@@ -4,4 +4,5 @@ pub mod Arc
 pub mod Pairs
 pub mod Column
 pub mod Calls
+pub mod Flat
 pub mod Ks
