@@ -1,11 +1,10 @@
 -- What is proved of the working slice of pairs. Assumes nothing.
-use Prim.Native.Nat.{ℕ, _+_, _-_, _*_, _/_, _%_, _≤_, _<_}
+use Prim.Native.Nat.{ℕ, _+_, _-_, _*_, _/_, _≤_}
 use native.Mathlib.Omega.{arith}
 use mathlib.Core.Path.{_≡_, refl, sym, ap, _∙_}
-use mathlib.Core.Bool.{true}
 use mathlib.Core.List.{List, [], _∷_, _++_, map, append-assoc}
 use lib.ListN.{length, take, drop, length-append}
-use lib.Seq.{take-at, drop-at}
+use lib.Seq.{length-take-le, take-at, drop-at}
 use lib.Ieee.{Float}
 use Rattle.seqs.specs.Slices.{put}
 use Rattle.seqs.specs.Put.{put-length}
@@ -17,14 +16,13 @@ use Rattle.geom.specs.Outline.{points}
 use Rattle.geom.specs.OutlineLaws.{points-length}
 use Rattle.geom.specs.Sewing.{flat}
 use Rattle.geom.specs.SewingLaws.{flat-length, points-room, points-put}
-use Rattle.geom.specs.Limits.{goodNumbers}
 use Rattle.satinrules.specs.declared.Pair.{Pair}
 use Rattle.satinrules.specs.Arc.{lengths}
 use Rattle.satinrules.specs.Pairs.{pairAt}
 use Rattle.satinrules.specs.Calls.{railsOf, bothPoints}
 use Rattle.arc.specs.RailLaws.{lengths-count}
 use Rattle.arc.specs.Rise.{railed}
-use Rattle.pairing.specs.Store.{Laid, storedPairs}
+use Rattle.pairing.specs.Store.{Laid, Sound, baseOf, storedPairs}
 
 pub rail-count : (l : List Float) → length (lengths (points l)) ≡ length l / 2
 rail-count l = lengths-count (points l) ∙ points-length l
@@ -49,9 +47,8 @@ module _ (a b d : List Float) (room : length a / 2 + length b / 2 ≤ length d) 
   rails-size y e = ap length e ∙ put-length d (lengths (points a) ++ lengths (points b)) 0 (omega (arith, both-count))
 
   -- what writing them leaves
-  pub laid-made : (y : List Float) → y ≡ put d 0 (lengths (points a) ++ lengths (points b))
-      → length a % 2 ≡ 0 → length b % 2 ≡ 0 → 2 ≤ length a → 2 ≤ length b → goodNumbers a ≡ true → goodNumbers b ≡ true → Laid a b y
-  laid-made y e ea eb ta tb ga gb =
+  pub laid-made : (y : List Float) → y ≡ put d 0 (lengths (points a) ++ lengths (points b)) → Sound a b → Laid a b y
+  laid-made y e s =
       let la = lengths (points a) in
       let lb = lengths (points b) in
       let rest = drop (length (la ++ lb)) d in
@@ -60,8 +57,8 @@ module _ (a b d : List Float) (room : length a / 2 + length b / 2 ≤ length d) 
         room = omega (arith, room, rails-size y e);
         onA = ap (take (length a / 2)) f ∙ take-at la (lb ++ rest) (length a / 2) (rail-count a);
         onB = ap (λ l. take (length b / 2) (drop (length a / 2) l)) f ∙ ap (take (length b / 2)) (drop-at la (lb ++ rest) (length a / 2) (rail-count a)) ∙ take-at lb rest (length b / 2) (rail-count b);
-        railA = railed a ea ta ga;
-        railB = railed b eb tb gb;
+        railA = railed a (s .evenA) (s .someA) (s .goodA);
+        railB = railed b (s .evenB) (s .someB) (s .goodB);
       }
 
 -- ---- the pairs
@@ -111,3 +108,21 @@ stored-none a b sync = refl
 -- the running lengths stand while pairs are written from base on
 pub laid-front : (a b : List Float) {w₀ w rest : List Float} {to : ℕ} (x : List Float) (base : ℕ) → Laid a b w₀ → length a / 2 + length b / 2 ≤ base → base ≤ to → Front w₀ w to rest (take base w₀ ++ x) → Laid a b w
 laid-front a b {w₀} {w} {rest} x base l h k f = laid-kept w l (f .len) (front-take rest x base (length a / 2 + length b / 2) f k h)
+
+-- what was put is read back
+pub put-back : (d m : List Float) (k : ℕ) → k ≤ length d → take (length m) (drop k (put d k m)) ≡ m
+put-back d m k h =
+    let rest = drop (length (take k d ++ m)) d in
+    ap (λ l. take (length m) (drop k l)) (append-assoc (take k d) m rest) ∙ ap (take (length m)) (drop-at (take k d) (m ++ rest) k (length-take-le k d h)) ∙ take-at m rest (length m) refl
+
+-- the running lengths, and then the pairs
+module _ (a b sync : List Float) (ps : List P) (d d₁ : List Float) (fits : baseOf a b + 4 * length ps ≤ length d) (e : d₁ ≡ put d 0 (lengths (points a) ++ lengths (points b))) where
+  pub stored-room : baseOf a b + 4 * length ps ≤ length d₁
+  stored-room = omega (arith, fits, rails-size a b d (omega arith) d₁ e)
+
+  module _ (y : List Float) (f : y ≡ put d₁ (baseOf a b) (storedPairs a b sync ps)) where
+    pub stored-size : length y ≡ length d
+    stored-size = ap length f ∙ put-length d₁ (storedPairs a b sync ps) (baseOf a b) (omega (arith, stored-room, stored-length a b sync ps)) ∙ rails-size a b d (omega arith) d₁ e
+
+    pub stored-back : take (4 * length ps) (drop (baseOf a b) y) ≡ storedPairs a b sync ps
+    stored-back = rw (f, ← stored-length a b sync ps) (put-back d₁ (storedPairs a b sync ps) (baseOf a b) (omega (arith, stored-room)))

@@ -135,3 +135,21 @@ places-count ends sync w = length-append (windows (w .step) origin (kept ends or
 pub places-are : (ends : P) (sync : List P) (step : Float) → walkPlaces ends sync (passOf ends sync step) ≡ places ends sync step
 unfolding walkPlaces passOf places
 places-are ends sync step = refl
+
+-- ---- how many places there can be
+
+window-bound : (step : Float) (p q : P) (on : Float → ℕ → List P) → ((s : Float) (m : ℕ) → length (on s m) ≤ m) → (s : Float) (m : ℕ) → length (inWindow step p q on s m) ≤ m
+unfolding inWindow
+window-bound step p q on h s zero = h (s ⊖ centre p q) zero
+window-bound step p q on h s (suc m) = elim (either (lt s (centre p q ⊖ shortest))) [
+  | inl e ↦ rw e (omega (arith, window-bound step p q on h (s ⊕ step) m))
+  | inr e ↦ rw e (h (s ⊖ centre p q) (suc m))
+]
+
+windows-bound : (step : Float) (p : P) (qs : List P) (s : Float) (m : ℕ) → length (windows step p qs s m) ≤ m
+unfolding windows
+windows-bound step p [] s m = omega arith
+windows-bound step p (q ∷ qs) s m = window-bound step p q (windows step q qs) (windows-bound step q qs) s m
+
+pub places-bound : (ends : P) (sync : List P) (w : Pass) → length (walkPlaces ends sync w) ≤ w .n + 1
+places-bound ends sync w = omega (arith, places-count ends sync w, windows-bound (w .step) origin (kept ends origin sync) zero64 (w .n))

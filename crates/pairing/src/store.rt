@@ -2,7 +2,7 @@
 ghost use mathlib.Core.Path.{_≡_};
 ghost use mathlib.Core.List.{[], _∷_, _++_, map};
 ghost use Prim.Native.Nat.{_+_, _*_, _/_, _^_, _<_, _≤_};
-ghost use lib.ListN.{length};
+ghost use lib.ListN.{length, take, drop};
 ghost use Rattle.seqs.specs.Slices.{put};
 ghost use Rattle.geom.specs.Outline.{points};
 ghost use Rattle.geom.specs.Sewing.{flat};
@@ -10,7 +10,7 @@ ghost use Rattle.satinrules.specs.Arc.{lengths, railAt};
 ghost use Rattle.satinrules.specs.Pairs.{pairAt};
 ghost use Rattle.satinrules.specs.Calls.{railsOf, bothPoints};
 ghost use Rattle.pairing.specs.Walk.{walkPlaces};
-ghost use Rattle.pairing.specs.Store.{Laid, storedPairs};
+ghost use Rattle.pairing.specs.Store.{Laid, Sound, baseOf, storedPairs};
 use crate::places::Pass;
 use crate::places::first_place;
 use crate::places::next_place;
@@ -76,4 +76,13 @@ pub fn put_pairs(
     }
     let q = pair_at(a, b, w, ends);
     put_pair(w, to, q);
+}
+
+// The running lengths of both rails, and behind them the pairs of a pass.
+pub fn lay_pairs(w: &mut [f64], a: &[f64], b: &[f64], sync: &[f64], ends: P, pass: Pass)
+    requires { ⌜ Sound (now a) (now b) × (baseOf (now a) (now b) + 4 * length (walkPlaces ends (points (now sync)) pass) ≤ length (now w)) ⌝ }
+    ensures { λ _. ⌜ (length (now (w .exit)) ≡ length (now (w .entry))) × (take (4 * length (walkPlaces ends (points (now (sync .entry))) pass)) (drop (baseOf (now (a .entry)) (now (b .entry))) (now (w .exit))) ≡ storedPairs (now (a .entry)) (now (b .entry)) (now (sync .entry)) (walkPlaces ends (points (now (sync .entry))) pass)) ⌝ }
+{
+    put_rails(w, a, b);
+    put_pairs(w, a.len() / 2 + b.len() / 2, a, b, sync, ends, pass);
 }

@@ -1,10 +1,21 @@
 // Document 01's calls of a satin column: the first check that applies answers, and a refusal writes nothing.
 ghost use mathlib.Core.Path.{_≡_};
 ghost use lib.ListN.{length};
-ghost use Rattle.satinrules.specs.Calls.{splitSewn, splitOutput, sStitchSewn, sStitchOutput};
+ghost use Rattle.satinrules.specs.Calls.{splitSewn, splitOutput, sStitchSewn, sStitchOutput, pairsSewn, pairsOutput, pairsWork};
+
+pub mod matched;
+pub mod rails;
+pub mod slices;
+
+use crate::matched::sewn_pairs;
+use crate::rails::few_corners;
+use crate::rails::rails_refusal;
+use crate::slices::zero;
 use geom::limits::good_line;
 use geom::limits::good_numbers;
 use geom::limits::good_split;
+use geom::limits::good_step;
+use refusal::DONE;
 use refusal::LAYOUT;
 use refusal::NUMBER;
 use refusal::SETTING;
@@ -52,4 +63,35 @@ pub fn s_stitch(line: &[f64], out: &mut [f64]) -> Sewn
         };
     }
     styles::bent::s_stitch(line, out)
+}
+
+// Matched points on both rails, about `step` apart: four numbers for each pair.
+pub fn pairs(
+    a: &[f64],
+    b: &[f64],
+    sync: &[f64],
+    step: f64,
+    work: &mut [f64],
+    out: &mut [f64],
+) -> Sewn
+    ensures { λ r. ⌜ (r ≡ pairsSewn (now (a .entry)) (now (b .entry)) (now (sync .entry)) step (length (now (work .entry))) (length (now (out .entry)))) × (now (out .exit) ≡ pairsOutput (now (a .entry)) (now (b .entry)) (now (sync .entry)) step (length (now (work .entry))) (now (out .entry))) × (now (work .exit) ≡ pairsWork (now (a .entry)) (now (b .entry)) (now (sync .entry)) step (now (work .entry)) (length (now (out .entry)))) ⌝ }
+{
+    let answer = rails_refusal(a, b, sync);
+    if answer != DONE {
+        return Sewn { answer, points: 0 };
+    }
+    if !good_step(step) {
+        return Sewn {
+            answer: SETTING,
+            points: 0,
+        };
+    }
+    if few_corners(a, b) {
+        zero(work);
+        return Sewn {
+            answer: DONE,
+            points: 0,
+        };
+    }
+    sewn_pairs(a, b, sync, step, work, out)
 }

@@ -1,0 +1,3 @@
+-- What the contracts of `satin` cite (Passed), and what is proved of it.
+pub mod Passed
+pub mod PassedLaws
