@@ -42,7 +42,7 @@ pub fn pair_at(a: &[f64], b: &[f64], w: &[f64], place: P) -> Pair
 }
 
 // Both points of a pair, from `to` on.
-fn put_pair(w: &mut [f64], to: usize, q: Pair)
+pub fn put_pair(w: &mut [f64], to: usize, q: Pair)
     requires { ⌜ to + 4 ≤ length (now w) ⌝ }
     ensures { λ _. ⌜ now (w .exit) ≡ put (now (w .entry)) to (flat (q .a ∷ q .b ∷ [])) ⌝ }
 {

@@ -71,16 +71,28 @@ underlay r g = onlyIf (bit g 1) (centrePass r g false) ++ (onlyIf (bit g 2) (con
 
 -- ---- the top's stitches
 
+-- both points moved out by the pull
+unfoldable pub widened : Satin → Pair → Pair
+widened g q =
+    let dir = norm (minus (q .a) (q .b)) in
+    record { a = plus (q .a) (times dir (g .pull)); b = minus (q .b) (times dir (g .pull)) }
+
+-- whether p lies too near to o
+unfoldable pub crowded : P → P → Bool
+crowded p o = lt (dist p o) shortDist
+
+-- p, moved towards q where it is to be short
+unfoldable pub pulled : P → P → Float → Bool → P
+pulled p q by short = cond short (plus p (times (norm (minus q p)) by)) p
+
 -- the two points of q, after o; every second pair is shortened where its rail is crowded, b2 towards the moved a2
 unfoldable pub stitch : Satin → Bool → Pair → Pair → List P
 stitch g second o q =
-    let dir = norm (minus (q .a) (q .b)) in
-    let a2 = plus (q .a) (times dir (g .pull)) in
-    let b2 = minus (q .b) (times dir (g .pull)) in
-    let by = dist a2 b2 ⊗ shortInset in
+    let w = widened g q in
+    let by = dist (w .a) (w .b) ⊗ shortInset in
     let short = g .«short_stitches» && second in
-    let a3 = cond (short && lt (dist (q .a) (o .a)) shortDist) (plus a2 (times (norm (minus b2 a2)) by)) a2 in
-    a3 ∷ cond (short && lt (dist (q .b) (o .b)) shortDist) (plus b2 (times (norm (minus a3 b2)) by)) b2 ∷ []
+    let a2 = pulled (w .a) (w .b) by (short && crowded (q .a) (o .a)) in
+    a2 ∷ pulled (w .b) a2 by (short && crowded (q .b) (o .b)) ∷ []
 
 unfoldable pub stitchesFrom : Satin → Bool → Pair → List Pair → List P
 stitchesFrom g second o [] = []
