@@ -15,7 +15,7 @@ use Rattle.geom.specs.declared.point.P.{P}
 use Rattle.geom.specs.Outline.{points}
 use Rattle.geom.specs.OutlineLaws.{points-length}
 use Rattle.geom.specs.Sewing.{flat, fitted}
-use Rattle.geom.specs.SewingLaws.{flat-length}
+use Rattle.geom.specs.SewingLaws.{flat-length, points-flat}
 use Rattle.geom.specs.Limits.{mostPairs, goodLine, goodNumbers, goodStep}
 use Rattle.satinrules.specs.declared.Pair.{Pair}
 use Rattle.satinrules.specs.Pairs.{endsOf, few, countOf, places, pairAt, pairs}
@@ -25,7 +25,9 @@ use Rattle.pairing.specs.StoreLaws.{stored-length}
 use Rattle.pairing.specs.declared.places.Pass.{Pass}
 use Rattle.pairing.specs.Walk.{passOf, walkPlaces}
 use Rattle.pairing.specs.WalkLaws.{places-are}
-use Rattle.satin.specs.Passed.{pairsPassed}
+use Rattle.passes.specs.Threads.{pairsIn}
+use Rattle.passes.specs.ThreadsLaws.{pairs-in-both}
+use Rattle.satin.specs.Passed.{pairsPassed, placed}
 
 -- ---- the rails
 
@@ -191,3 +193,10 @@ few-none a b sync step e = rw e
 pub worked-kept : (n : ℕ) (w : List Float) → (n ≡ 0 → ⊥) → n ≤ 5 → worked n w ≡ w
 worked-kept zero w h g = absurd (h refl)
 worked-kept (suc n) w h g = rw (le-leb 1 (suc n) (omega arith), le-leb (suc n) 5 g)
+
+-- the pairs that stand in a slice are the ones that were laid
+pub placed-in : (a b sync s : List Float) (ps : List P) → s ≡ storedPairs a b sync ps → pairsIn (points s) ≡ placed a b sync ps
+placed-in a b sync s ps e = ap (λ l. pairsIn (points l)) e ∙ ap pairsIn (points-flat (bothPoints (placed a b sync ps))) ∙ pairs-in-both (placed a b sync ps)
+
+pub placed-size : (a b sync s : List Float) (ps : List P) → s ≡ storedPairs a b sync ps → length s / 4 ≡ length ps
+placed-size a b sync s ps e = omega (arith, ap length e, stored-length a b sync ps)
