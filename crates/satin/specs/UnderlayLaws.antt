@@ -1,0 +1,85 @@
+-- What is proved of the underlay's passes: each by its thread over the pairs. Assumes nothing.
+use Prim.Native.Nat.{ℕ, _+_, _*_, _/_, _%_, _≤_}
+use native.Mathlib.Omega.{arith}
+use mathlib.Core.Path.{_≡_, refl, sym, ap, _∙_}
+use mathlib.Core.Bool.{Bool, true, false, not}
+use mathlib.Core.List.{List, [], _∷_, _++_}
+use lib.Dec.{eqb}
+use lib.ListN.{length, length-append, length-reverse}
+use lib.Ieee.{Float}
+use borrow.Author.Tests.{eq-eqb, ne-eqb}
+use Rattle.geom.specs.declared.point.P.{P}
+use Rattle.seqs.specs.Slices.{put}
+use Rattle.seqs.specs.Put.{put-length}
+use Rattle.geom.specs.Outline.{points}
+use Rattle.geom.specs.Sewing.{flat}
+use Rattle.geom.specs.SewingLaws.{flat-length}
+use Rattle.satinrules.specs.declared.Satin.{Satin}
+use Rattle.satinrules.specs.declared.Pair.{Pair}
+use Rattle.satinrules.specs.Settings.{zigzagUnderlaySpacing}
+use Rattle.satinrules.specs.Pairs.{pairs}
+use Rattle.satinrules.specs.Column.{turnedIf, onlyIf, bit, afterCentre, centrePass, contourPass, zigzagPass}
+use Rattle.satinrules.specs.Calls.{railsOf}
+use Rattle.pairing.specs.declared.places.Pass.{Pass}
+use Rattle.pairing.specs.Walk.{walkPlaces}
+use Rattle.passes.specs.declared.threads.Thread.{Thread}
+use Rattle.passes.specs.declared.threads.Thread.the-variants.{Middle, SideA, SideB, Alternate}
+use Rattle.passes.specs.Threads.{threadOf}
+use Rattle.passes.specs.ThreadsLaws.{thread-length, middle-thread, a-thread, b-thread, alternate-thread}
+use Rattle.satin.specs.Passed.{placed}
+use Rattle.satin.specs.PassedLaws.{pass-places}
+use Rattle.satin.specs.Underlay.{Fit}
+
+turned-length : (l : List P) (back : Bool) → length (turnedIf back l) ≡ length l
+turned-length l true = length-reverse l
+turned-length l false = refl
+
+module _ {a b sync : List Float} {step : Float} {ends : P} {pass : Pass} {n : ℕ} (f : Fit a b sync step ends pass n) where
+  pub fit-pairs : placed a b sync (walkPlaces ends (points sync) pass) ≡ pairs (railsOf a b sync) step
+  unfolding pairs railsOf
+  fit-pairs = ap (placed a b sync) (pass-places a b sync step (f .end) (f .asked)) ∙ rw (f .some)
+
+  fit-count : length (pairs (railsOf a b sync) step) ≡ n
+  fit-count = ap length (sym fit-pairs) ∙ map-length (walkPlaces ends (points sync) pass) ∙ sym (f .count)
+    where
+      map-length : (ps : List P) → length (placed a b sync ps) ≡ length ps
+      map-length [] = refl
+      map-length (p ∷ ps) = omega (arith, map-length ps)
+
+  pub fit-length : (t : Thread) (back : Bool) → length (turnedIf back (threadOf t (pairs (railsOf a b sync) step))) ≡ n
+  fit-length t back = turned-length (threadOf t (pairs (railsOf a b sync) step)) back ∙ thread-length t 0 (pairs (railsOf a b sync) step) ∙ fit-count
+
+-- ---- the bits
+
+pub bit-one : (g : Satin) → g .underlay / 1 ≡ g .underlay
+bit-one g = omega arith
+
+module _ (g : Satin) where
+  pub first-on : g .underlay % 2 ≡ 1 → bit g 1 ≡ true
+  first-on h = eq-eqb (g .underlay / 1 % 2) 1 (omega (arith, bit-one g))
+
+  pub first-off : (g .underlay % 2 ≡ 1 → ⊥) → bit g 1 ≡ false
+  first-off h = ne-eqb (g .underlay / 1 % 2) 1 (λ e. h (omega (arith, bit-one g)))
+
+  pub end-is : eqb (g .underlay % 2) 1 ≡ afterCentre g
+  unfolding afterCentre
+  end-is = rw (bit-one g)
+
+-- ---- the passes
+
+module _ (a b sync : List Float) (g : Satin) where
+  pub centre-is : centrePass (railsOf a b sync) g false ≡ turnedIf false (threadOf Middle (pairs (railsOf a b sync) (g .«run_len»)))
+  unfolding centrePass
+  centre-is = sym (middle-thread (pairs (railsOf a b sync) (g .«run_len»)))
+
+  pub contour-is : (end : Bool) → contourPass (railsOf a b sync) g end ≡ turnedIf end (threadOf SideA (pairs (railsOf a b sync) (g .«run_len»))) ++ turnedIf (not end) (threadOf SideB (pairs (railsOf a b sync) (g .«run_len»)))
+  unfolding contourPass
+  contour-is end = rw (a-thread (pairs (railsOf a b sync) (g .«run_len»)), b-thread (pairs (railsOf a b sync) (g .«run_len»)))
+
+  pub zigzag-is : (end : Bool) → zigzagPass (railsOf a b sync) end ≡ turnedIf end (threadOf Alternate (pairs (railsOf a b sync) zigzagUnderlaySpacing))
+  unfolding zigzagPass
+  zigzag-is end = rw (alternate-thread (pairs (railsOf a b sync) zigzagUnderlaySpacing))
+
+-- points that are put leave the slice as long as it was
+pub run-size : (d y : List Float) (m : List P) (k : ℕ) → k + 2 * length m ≤ length d → y ≡ put d k (flat m) → length y ≡ length d
+run-size d y m k h e = ap length e ∙ put-length d (flat m) k (omega (arith, flat-length m))
