@@ -6,7 +6,7 @@ ghost use lib.ListN.{length, take, drop};
 ghost use Rattle.seqs.specs.Slices.{put, capped};
 ghost use Rattle.geom.specs.Outline.{points};
 ghost use Rattle.geom.specs.Sewing.{flat};
-ghost use Rattle.satinrules.specs.Column.{widened, crowded, pulled, stitch, stitches, splitBy, styled};
+ghost use Rattle.satinrules.specs.Column.{spaced, widened, crowded, pulled, stitch, stitches, splitBy, styled};
 ghost use Rattle.passes.specs.Threads.{pairsIn};
 use crate::threads::pair_in;
 use geom::P;
@@ -22,6 +22,17 @@ use styles::bent::count_bent;
 use styles::bent::put_bent;
 use styles::split::count_split;
 use styles::split::put_split;
+
+// The zigzag style triples the spacing.
+pub fn spaced(style: Style, spacing: f64) -> f64
+    ensures { λ r. ⌜ r ≡ spaced style spacing ⌝ }
+{
+    match style {
+        Style::Plain => spacing,
+        Style::SStitch => spacing,
+        Style::Zigzag => spacing * 3.0,
+    }
+}
 
 // Whether p lies too near to o.
 fn crowded(p: P, o: P) -> bool

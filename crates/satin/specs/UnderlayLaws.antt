@@ -17,6 +17,7 @@ use Rattle.geom.specs.SewingLaws.{flat-length}
 use Rattle.satinrules.specs.declared.Satin.{Satin}
 use Rattle.satinrules.specs.declared.Pair.{Pair}
 use Rattle.satinrules.specs.Settings.{zigzagUnderlaySpacing}
+use Rattle.satinrules.specs.Flat.{flat-then}
 use Rattle.satinrules.specs.Pairs.{pairs}
 use Rattle.satinrules.specs.Column.{turnedIf, onlyIf, bit, afterCentre, centrePass, contourPass, zigzagPass}
 use Rattle.satinrules.specs.Calls.{railsOf}
@@ -83,3 +84,27 @@ module _ (a b sync : List Float) (g : Satin) where
 -- points that are put leave the slice as long as it was
 pub run-size : (d y : List Float) (m : List P) (k : ℕ) → k + 2 * length m ≤ length d → y ≡ put d k (flat m) → length y ≡ length d
 run-size d y m k h e = ap length e ∙ put-length d (flat m) k (omega (arith, flat-length m))
+
+-- ---- the three passes in order
+
+pub three-length : (c k z : List P) → length (c ++ (k ++ z)) ≡ length c + length k + length z
+three-length c k z = omega (arith, length-append c (k ++ z), length-append k z)
+
+module _ (d d₁ : List Float) (c k z : List P) (fits : 2 * length (c ++ (k ++ z)) ≤ length d) (e : d₁ ≡ put d 0 (flat c)) where
+  first-size : length d₁ ≡ length d
+  first-size = run-size d d₁ c 0 (omega (arith, fits, three-length c k z)) e
+
+  pub second-room : 2 * length c + 2 * length k ≤ length d₁
+  second-room = omega (arith, fits, three-length c k z, first-size)
+
+  module _ (d₂ : List Float) (i : ℕ) (at : i ≡ 0 + 2 * length c) (f : d₂ ≡ put d₁ i (flat k)) where
+    pub third-room : 2 * length c + 2 * length k + 2 * length z ≤ length d₂
+    third-room = omega (arith, fits, three-length c k z, first-size, run-size d₁ d₂ k i (omega (arith, second-room)) f)
+
+    pub three-put : (y : List Float) (j : ℕ) → j ≡ i + 2 * length k → y ≡ put d₂ j (flat z) → y ≡ put d 0 (flat (c ++ (k ++ z)))
+    three-put y j h g =
+        let t : y ≡ put d₁ i (flat (k ++ z)) = flat-then d₁ d₂ k z i (omega (arith, fits, three-length c k z, first-size, length-append k z)) f y j h g in
+        flat-then d d₁ c (k ++ z) 0 (omega (arith, fits)) e y i at t
+
+    pub three-size : (y : List Float) (j : ℕ) → j ≡ i + 2 * length k → y ≡ put d₂ j (flat z) → length y ≡ length d
+    three-size y j h g = run-size d y (c ++ (k ++ z)) 0 (omega (arith, fits)) (three-put y j h g)

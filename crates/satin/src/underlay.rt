@@ -6,7 +6,7 @@ ghost use lib.ListN.{length};
 ghost use Rattle.seqs.specs.Slices.{put};
 ghost use Rattle.geom.specs.Outline.{points};
 ghost use Rattle.geom.specs.Sewing.{flat};
-ghost use Rattle.satinrules.specs.Column.{turnedIf, onlyIf, bit, afterCentre, centrePass, contourPass, zigzagPass};
+ghost use Rattle.satinrules.specs.Column.{turnedIf, onlyIf, bit, afterCentre, centrePass, contourPass, zigzagPass, underlay};
 ghost use Rattle.satinrules.specs.Settings.{zigzagUnderlaySpacing};
 ghost use Rattle.satinrules.specs.Calls.{railsOf};
 ghost use Rattle.pairing.specs.Walk.{walkPlaces};
@@ -146,4 +146,26 @@ pub fn put_zigzag(
         );
     }
     k
+}
+
+// The whole underlay to the front of out: centre, contour and zigzag, in that order; answers the place after it.
+pub fn put_underlay(
+    work: &mut [f64],
+    out: &mut [f64],
+    a: &[f64],
+    b: &[f64],
+    sync: &[f64],
+    ends: P,
+    run: Pass,
+    n: usize,
+    zigzag: Pass,
+    m: usize,
+    g: Satin,
+) -> usize
+    requires { ⌜ Fit (now a) (now b) (now sync) (g .«run_len») ends run n × Fit (now a) (now b) (now sync) zigzagUnderlaySpacing ends zigzag m × (baseOf (now a) (now b) + 4 * n ≤ length (now work)) × (baseOf (now a) (now b) + 4 * m ≤ length (now work)) × (2 * length (underlay (railsOf (now a) (now b) (now sync)) g) ≤ length (now out)) ⌝ }
+    ensures { λ r. ⌜ (now (out .exit) ≡ put (now (out .entry)) 0 (flat (underlay (railsOf (now (a .entry)) (now (b .entry)) (now (sync .entry))) g))) × (r ≡ 2 * length (underlay (railsOf (now (a .entry)) (now (b .entry)) (now (sync .entry))) g)) × (length (now (work .exit)) ≡ length (now (work .entry))) ⌝ }
+{
+    let c = put_centre(work, out, 0, a, b, sync, ends, run, n, g);
+    let k = put_contour(work, out, c, a, b, sync, ends, run, n, g);
+    put_zigzag(work, out, k, a, b, sync, ends, zigzag, m, g)
 }
