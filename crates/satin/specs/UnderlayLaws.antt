@@ -5,7 +5,7 @@ use mathlib.Core.Path.{_≡_, refl, sym, ap, _∙_}
 use mathlib.Core.Bool.{Bool, true, false, not}
 use mathlib.Core.List.{List, [], _∷_, _++_}
 use lib.Dec.{eqb}
-use lib.ListN.{length, length-append, length-reverse}
+use lib.ListN.{length, take, drop, length-append, length-reverse}
 use lib.Ieee.{Float}
 use borrow.Author.Tests.{eq-eqb, ne-eqb}
 use Rattle.geom.specs.declared.point.P.{P}
@@ -19,16 +19,20 @@ use Rattle.satinrules.specs.declared.Pair.{Pair}
 use Rattle.satinrules.specs.Settings.{zigzagUnderlaySpacing}
 use Rattle.satinrules.specs.Flat.{flat-then}
 use Rattle.satinrules.specs.Pairs.{pairs}
-use Rattle.satinrules.specs.Column.{turnedIf, onlyIf, bit, afterCentre, centrePass, contourPass, zigzagPass}
+use Rattle.satinrules.specs.Column.{turnedIf, onlyIf, bit, stitches, afterCentre, centrePass, contourPass, zigzagPass}
 use Rattle.satinrules.specs.Calls.{railsOf}
 use Rattle.pairing.specs.declared.places.Pass.{Pass}
 use Rattle.pairing.specs.Walk.{walkPlaces}
+use Rattle.pairing.specs.WalkLaws.{places-count}
+use Rattle.pairing.specs.Store.{baseOf, storedPairs}
+use Rattle.pairing.specs.StoreLaws.{put-back}
 use Rattle.passes.specs.declared.threads.Thread.{Thread}
 use Rattle.passes.specs.declared.threads.Thread.the-variants.{Middle, SideA, SideB, Alternate}
-use Rattle.passes.specs.Threads.{threadOf}
+use Rattle.passes.specs.Threads.{pairsIn, threadOf}
 use Rattle.passes.specs.ThreadsLaws.{thread-length, middle-thread, a-thread, b-thread, alternate-thread}
+use Rattle.passes.specs.TopLaws.{stitches-length}
 use Rattle.satin.specs.Passed.{placed}
-use Rattle.satin.specs.PassedLaws.{pass-places}
+use Rattle.satin.specs.PassedLaws.{pass-places, placed-in}
 use Rattle.satin.specs.Underlay.{Fit}
 
 turned-length : (l : List P) (back : Bool) → length (turnedIf back l) ≡ length l
@@ -40,12 +44,27 @@ module _ {a b sync : List Float} {step : Float} {ends : P} {pass : Pass} {n : �
   unfolding pairs railsOf
   fit-pairs = ap (placed a b sync) (pass-places a b sync step (f .end) (f .asked)) ∙ rw (f .some)
 
-  fit-count : length (pairs (railsOf a b sync) step) ≡ n
+  pub fit-count : length (pairs (railsOf a b sync) step) ≡ n
   fit-count = ap length (sym fit-pairs) ∙ map-length (walkPlaces ends (points sync) pass) ∙ sym (f .count)
     where
       map-length : (ps : List P) → length (placed a b sync ps) ≡ length ps
       map-length [] = refl
       map-length (p ∷ ps) = omega (arith, map-length ps)
+
+  pub fit-some : 1 ≤ n
+  fit-some = omega (arith, f .count, places-count ends (points sync) pass)
+
+  -- the pairs as they stand once they are laid
+  pub fit-laid : (w : List Float) → take (4 * length (walkPlaces ends (points sync) pass)) (drop (baseOf a b) w) ≡ storedPairs a b sync (walkPlaces ends (points sync) pass) → pairsIn (points (take (4 * n) (drop (baseOf a b) w))) ≡ pairs (railsOf a b sync) step
+  fit-laid w e = rw (f .count) (placed-in a b sync (take (4 * length (walkPlaces ends (points sync) pass)) (drop (baseOf a b) w)) (walkPlaces ends (points sync) pass) e ∙ fit-pairs)
+
+  -- the stitches over them, read back from behind them
+  pub fit-stitches : (g : Satin) (d y : List Float) → baseOf a b + 8 * n ≤ length d → y ≡ put d (baseOf a b + 4 * n) (flat (stitches g (pairs (railsOf a b sync) step)))
+      → (length y ≡ length d) × (take (4 * n) (drop (baseOf a b + 4 * n) y) ≡ flat (stitches g (pairs (railsOf a b sync) step)))
+  fit-stitches g d y h e =
+      let m = flat (stitches g (pairs (railsOf a b sync) step)) in
+      let s : length m ≡ 4 * n = omega (arith, flat-length (stitches g (pairs (railsOf a b sync) step)), stitches-length g (pairs (railsOf a b sync) step), fit-count) in
+      (ap length e ∙ put-length d m (baseOf a b + 4 * n) (omega (arith, s)), ap (λ (k : ℕ). take k (drop (baseOf a b + 4 * n) y)) (sym s) ∙ ap (λ (l : List Float). take (length m) (drop (baseOf a b + 4 * n) l)) e ∙ put-back d m (baseOf a b + 4 * n) (omega arith))
 
   pub fit-length : (t : Thread) (back : Bool) → length (turnedIf back (threadOf t (pairs (railsOf a b sync) step))) ≡ n
   fit-length t back = turned-length (threadOf t (pairs (railsOf a b sync) step)) back ∙ thread-length t 0 (pairs (railsOf a b sync) step) ∙ fit-count
