@@ -2,7 +2,7 @@
 use Prim.Native.Nat.{ℕ, _+_, _*_, _/_, _%_, _≤_}
 use native.Mathlib.Omega.{arith}
 use mathlib.Core.Path.{_≡_, refl, sym, ap, _∙_}
-use mathlib.Core.Bool.{Bool, true, false, not}
+use mathlib.Core.Bool.{Bool, true, false, not, cond}
 use mathlib.Core.List.{List, [], _∷_, _++_}
 use lib.Dec.{eqb}
 use lib.ListN.{length, take, drop, length-append, length-reverse}
@@ -19,7 +19,7 @@ use Rattle.satinrules.specs.declared.Pair.{Pair}
 use Rattle.satinrules.specs.Settings.{zigzagUnderlaySpacing}
 use Rattle.satinrules.specs.Flat.{flat-then}
 use Rattle.satinrules.specs.Pairs.{pairs}
-use Rattle.satinrules.specs.Column.{turnedIf, onlyIf, bit, stitches, afterCentre, centrePass, contourPass, zigzagPass}
+use Rattle.satinrules.specs.Column.{turnedIf, onlyIf, bit, stitches, afterCentre, centrePass, contourPass, zigzagPass, underlay}
 use Rattle.satinrules.specs.Calls.{railsOf}
 use Rattle.pairing.specs.declared.places.Pass.{Pass}
 use Rattle.pairing.specs.Walk.{walkPlaces}
@@ -33,7 +33,7 @@ use Rattle.passes.specs.ThreadsLaws.{thread-length, middle-thread, a-thread, b-
 use Rattle.passes.specs.TopLaws.{stitches-length}
 use Rattle.satin.specs.Passed.{placed}
 use Rattle.satin.specs.PassedLaws.{pass-places, placed-in}
-use Rattle.satin.specs.Underlay.{Fit}
+use Rattle.satin.specs.Underlay.{Fit, underlayCount}
 
 turned-length : (l : List P) (back : Bool) → length (turnedIf back l) ≡ length l
 turned-length l true = length-reverse l
@@ -127,3 +127,20 @@ module _ (d d₁ : List Float) (c k z : List P) (fits : 2 * length (c ++ (k ++ z
 
     pub three-size : (y : List Float) (j : ℕ) → j ≡ i + 2 * length k → y ≡ put d₂ j (flat z) → length y ≡ length d
     three-size y j h g = run-size d y (c ++ (k ++ z)) 0 (omega (arith, fits)) (three-put y j h g)
+
+-- ---- the count
+
+only-length : (sewn : Bool) (l : List P) (n : ℕ) → length l ≡ n → length (onlyIf sewn l) ≡ cond sewn n 0
+only-length true l n e = e
+only-length false l n e = refl
+
+pub underlay-count : {a b sync : List Float} {ends : P} {run zigzag : Pass} {n m : ℕ} (g : Satin) → Fit a b sync (g .«run_len») ends run n → Fit a b sync zigzagUnderlaySpacing ends zigzag m → length (underlay (railsOf a b sync) g) ≡ underlayCount g n m
+unfolding underlay underlayCount
+underlay-count {a} {b} {sync} {n = n} {m = m} g f h =
+    let r = railsOf a b sync in
+    let end = afterCentre g in
+    let c : length (centrePass r g false) ≡ n = ap length (centre-is a b sync g) ∙ fit-length f Middle false in
+    let k : length (contourPass r g end) ≡ 2 * n = ap length (contour-is a b sync g end) ∙ length-append (turnedIf end (threadOf SideA (pairs r (g .«run_len»)))) (turnedIf (not end) (threadOf SideB (pairs r (g .«run_len»)))) ∙ omega (arith, fit-length f SideA end, fit-length f SideB (not end)) in
+    let z : length (zigzagPass r end) ≡ m = ap length (zigzag-is a b sync g end) ∙ fit-length h Alternate end in
+    three-length (onlyIf (bit g 1) (centrePass r g false)) (onlyIf (bit g 2) (contourPass r g end)) (onlyIf (bit g 4) (zigzagPass r end))
+    ∙ omega (arith, only-length (bit g 1) (centrePass r g false) n c, only-length (bit g 2) (contourPass r g end) (2 * n) k, only-length (bit g 4) (zigzagPass r end) m z)

@@ -1,6 +1,6 @@
 // The underlay half of a column: its passes one after the other, each over pairs laid in the working slice.
 ghost use mathlib.Core.Path.{_≡_};
-ghost use mathlib.Core.Bool.{false};
+ghost use mathlib.Core.Bool.{false, cond};
 ghost use Prim.Native.Nat.{_+_, _*_, _≤_};
 ghost use lib.ListN.{length};
 ghost use Rattle.seqs.specs.Slices.{put};
@@ -13,7 +13,7 @@ ghost use Rattle.pairing.specs.Walk.{walkPlaces};
 ghost use Rattle.pairing.specs.Store.{Sound, baseOf};
 ghost use Rattle.passes.specs.Threads.{threadOf};
 ghost use Rattle.satin.specs.Passed.{placed};
-ghost use Rattle.satin.specs.Underlay.{Fit};
+ghost use Rattle.satin.specs.Underlay.{Fit, underlayCount};
 use geom::P;
 use pairing::places::Pass;
 use pairing::store::lay_pairs;
@@ -168,4 +168,24 @@ pub fn put_underlay(
     let c = put_centre(work, out, 0, a, b, sync, ends, run, n, g);
     let k = put_contour(work, out, c, a, b, sync, ends, run, n, g);
     put_zigzag(work, out, k, a, b, sync, ends, zigzag, m, g)
+}
+
+// How many points the underlay has, where its passes have n and m pairs.
+pub fn count_underlay(n: usize, m: usize, g: Satin) -> usize
+    requires { ⌜ (n ≤ 65537) × (m ≤ 65537) ⌝ }
+    ensures { λ r. ⌜ r ≡ underlayCount g n m ⌝ }
+{
+    once(g.underlay % 2 == 1, n)
+        + once(g.underlay / 2 % 2 == 1, 2 * n)
+        + once(g.underlay / 4 % 2 == 1, m)
+}
+
+// n where it is sewn.
+fn once(sewn: bool, n: usize) -> usize
+    ensures { λ r. ⌜ (r ≡ cond sewn n 0) × (r ≤ n) ⌝ }
+{
+    if sewn {
+        return n;
+    }
+    0
 }
