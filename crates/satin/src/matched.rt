@@ -1,0 +1,71 @@
+// The pairs of rails that were accepted.
+ghost use mathlib.Core.Path.{_≡_};
+ghost use mathlib.Core.Bool.{false};
+ghost use mathlib.Core.List.{[], _∷_};
+ghost use lib.ListN.{length};
+ghost use Rattle.refusal.specs.Sewn.{sewn, output};
+ghost use Rattle.geom.specs.Sewing.{flat};
+ghost use Rattle.satinrules.specs.Pairs.{few, pairs};
+ghost use Rattle.satinrules.specs.Calls.{railsOf, bothPoints, worked};
+ghost use Rattle.pairing.specs.Store.{Sound};
+ghost use Rattle.satin.specs.Passed.{pairsPassed};
+use crate::rails::ends_of;
+use crate::rails::need;
+use crate::slices::copy;
+use crate::slices::zero;
+use pairing::places::count_places;
+use pairing::places::pass_of;
+use pairing::store::lay_pairs;
+use refusal::DONE;
+use refusal::ROOM;
+use refusal::SIZE;
+use refusal::Sewn;
+use refusal::WORK;
+
+// Of a pass.
+pub const MOST_PAIRS: u64 = 65536;
+
+// The pairs to the front of out, four numbers each; or SIZE, WORK or ROOM and nothing.
+pub fn sewn_pairs(
+    a: &[f64],
+    b: &[f64],
+    sync: &[f64],
+    step: f64,
+    work: &mut [f64],
+    out: &mut [f64],
+) -> Sewn
+    requires { ⌜ Sound (now a) (now b) × (few (railsOf (now a) (now b) (now sync)) ≡ false) ⌝ }
+    ensures { λ r. ⌜ (r ≡ sewn (pairsPassed (now (a .entry)) (now (b .entry)) (now (sync .entry)) step (length (now (work .entry))) (length (now (out .entry)))) (length (bothPoints (pairs (railsOf (now (a .entry)) (now (b .entry)) (now (sync .entry))) step)))) × (now (out .exit) ≡ output (pairsPassed (now (a .entry)) (now (b .entry)) (now (sync .entry)) step (length (now (work .entry))) (length (now (out .entry)))) (flat (bothPoints (pairs (railsOf (now (a .entry)) (now (b .entry)) (now (sync .entry))) step))) (now (out .entry))) × (now (work .exit) ≡ worked (pairsPassed (now (a .entry)) (now (b .entry)) (now (sync .entry)) step (length (now (work .entry))) (length (now (out .entry)))) (now (work .entry))) ⌝ }
+{
+    let ends = ends_of(a, b);
+    let pass = pass_of(sync, ends, step);
+    if pass.n > MOST_PAIRS {
+        return Sewn {
+            answer: SIZE,
+            points: 0,
+        };
+    }
+    let n = count_places(sync, ends, pass) as usize;
+    if work.len() < need(a, b, sync, n) {
+        zero(work);
+        return Sewn {
+            answer: WORK,
+            points: 0,
+        };
+    }
+    if out.len() < 4 * n {
+        zero(work);
+        return Sewn {
+            answer: ROOM,
+            points: 0,
+        };
+    }
+    lay_pairs(work, a, b, sync, ends, pass);
+    let base = a.len() / 2 + b.len() / 2;
+    copy(out, &work[base..base + 4 * n]);
+    zero(work);
+    Sewn {
+        answer: DONE,
+        points: (2 * n) as u64,
+    }
+}
