@@ -1,6 +1,6 @@
 -- What a record of a fill is worth: 0 the call leaves the wanted words, 1 it leaves others, 2 there is no such function or call. Definitions only.
-use Prim.Native.Nat.{ℕ, _-_}
-use mathlib.Core.Bool.{Bool, not, _&&_, cond}
+use Prim.Native.Nat.{ℕ}
+use mathlib.Core.Bool.{not, _&&_, cond}
 use mathlib.Core.List.{List, []}
 use lib.Dec.{eqb, leb, ltb}
 use lib.IntN.{ℤ, pos}

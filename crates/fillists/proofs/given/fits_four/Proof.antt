@@ -1,5 +1,4 @@
 use borrow.Author.Tests.{lt-leb, le-leb}
-use borrow.Author.Needs.{needs}
 use Rattle.fillists.proofs.given.fits_four.Statement.{statement}
 use Rattle.fillists.proofs.given.fits_four.Tie as tie
 

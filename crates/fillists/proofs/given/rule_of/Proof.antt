@@ -1,5 +1,4 @@
 use borrow.Author.Tests.{eq-eqb, ne-eqb}
-use borrow.Author.Needs.{needs}
 use Rattle.fillists.proofs.given.rule_of.Statement.{statement}
 use Rattle.fillists.proofs.given.rule_of.Tie as tie
 

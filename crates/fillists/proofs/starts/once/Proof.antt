@@ -1,5 +1,4 @@
 use borrow.Author.Tests.{lt-ltb, le-ltb}
-use borrow.Author.Needs.{needs}
 use Rattle.fillists.proofs.starts.once.Statement.{statement}
 use Rattle.fillists.proofs.starts.once.Tie as tie
 
