@@ -1,0 +1,2 @@
+-- Laws that the proofs of `fillists` share.
+pub mod Laws
