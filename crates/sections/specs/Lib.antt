@@ -6,3 +6,5 @@ pub mod MarkFrame
 pub mod RowEnds
 pub mod AllRows
 pub mod Marked
+pub mod Rises
+pub mod RiseLaws

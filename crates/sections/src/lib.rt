@@ -2,13 +2,22 @@
 // Pieces stand as blocks of three floats (y, xa, xb). Of the whole numbers the first n are the pieces' rows, and the marks
 // come after them, as blocks of two.
 ghost use mathlib.Core.Path.{_≡_};
+ghost use mathlib.Core.Bool.{true};
 ghost use mathlib.Core.List.{List};
+ghost use lib.Dec.{eqb};
 ghost use Prim.Native.Nat.{_+_, _-_, _*_, _≤_, _<_};
 ghost use lib.ListN.{length};
 ghost use Rattle.seqs.specs.Slices.{Wrote};
 ghost use Rattle.geom.specs.Outline.{rings, Layout};
 ghost use Rattle.rules.specs.Fill.{overlap, linkEnds, linkInside, connects, begun};
-ghost use Rattle.sections.specs.Mark.{pieceIn, entryIn, over, under, Hit, countOf, Ranges, Within, Low, joinsAt, markAt, afterAt, flatMark, rowMarks, rowNew, flatMarks, rowEnd, markedIn};
+ghost use Rattle.sections.specs.Mark.{pieceIn, entryIn, hits, over, under, Hit, countOf, onlyAt, Ranges, Within, Low, joinsAt, markAt, afterAt, flatMark, rowMarks, rowNew, flatMarks, rowEnd, markedIn};
+ghost use Rattle.sections.specs.Rises.{Risen};
+
+mod rise;
+
+use crate::rise::meets_rising;
+use crate::rise::only_rising;
+use crate::rise::rises;
 use geom::FillRule;
 use geom::P;
 use geom::inside::point_inside;
@@ -185,6 +194,47 @@ pub struct Fill {
     pub settings: Settings,
 }
 
+// The only open place that p overlaps, if there is one: found by a scan, or in rows that rise by bisection.
+fn only_open(pieces: &[f64], b0: usize, r0: usize, p: Piece, rising: bool) -> Found
+    requires { ⌜ Risen (now pieces) b0 r0 rising × (b0 ≤ r0) × (3 * r0 ≤ length (now pieces)) ⌝ }
+    ensures { λ r. ⌜ (r ≡ onlyAt (hits (over (now (pieces .entry)) p) b0 r0)) × Within r b0 r0 ⌝ }
+{
+    if rising {
+        return only_rising(pieces, b0, r0, p);
+    }
+    let a = find(pieces, b0, r0, p);
+    let Found::At(t) = a else {
+        return Found::Nothing;
+    };
+    let b = find(pieces, t + 1, r0, p);
+    let Found::Nothing = b else {
+        return Found::Nothing;
+    };
+    Found::At(t)
+}
+
+// Whether o overlaps the piece at j and no other of its row.
+fn meets_one(pieces: &[f64], r0: usize, r1: usize, j: usize, o: Piece, rising: bool) -> bool
+    requires { ⌜ Risen (now pieces) r0 r1 rising × (r0 ≤ j) × (j < r1) × (3 * r1 ≤ length (now pieces)) × (under (now pieces) o j ≡ true) ⌝ }
+    ensures { λ r. ⌜ r ≡ eqb (countOf (under (now (pieces .entry)) o) r0 r1) 1 ⌝ }
+{
+    if rising {
+        return meets_rising(pieces, r0, r1, j, o);
+    }
+    count_over(pieces, r0, r1, o) == 1
+}
+
+// Whether the row before and this one rise.
+fn rows_rise(pieces: &[f64], s: Row) -> bool
+    requires { ⌜ (s .b0 ≤ s .r0) × (s .r0 ≤ s .r1) × (3 * s .r1 ≤ length (now pieces)) ⌝ }
+    ensures { λ r. ⌜ Risen (now (pieces .entry)) (s .b0) (s .r0) r × Risen (now (pieces .entry)) (s .r0) (s .r1) r ⌝ }
+{
+    if rises(pieces, s.b0, s.r0) {
+        return rises(pieces, s.r0, s.r1);
+    }
+    false
+}
+
 // The open place that the piece at j joins, if there is one.
 fn joins(
     corners: &[f64],
@@ -194,22 +244,19 @@ fn joins(
     wholes: &[usize],
     s: Row,
     j: usize,
+    rising: bool,
 ) -> Found
-    requires { ⌜ Layout (now corners) (now ends) × Ranges s (now pieces) (now wholes) × (j < s .r1) ⌝ }
+    requires { ⌜ Layout (now corners) (now ends) × Ranges s (now pieces) (now wholes) × (j < s .r1) × (s .r0 ≤ j) × Risen (now pieces) (s .b0) (s .r0) rising × Risen (now pieces) (s .r0) (s .r1) rising ⌝ }
     ensures { λ r. ⌜ (r ≡ joinsAt (rings (now (corners .entry)) (now (ends .entry))) (f .rule) (f .settings) (now (pieces .entry)) (now (wholes .entry)) s j) × Within r (s .b0) (s .r0) ⌝ }
 {
     let p = piece_at(pieces, j);
     let r0 = s.r0;
-    let a = find(pieces, s.b0, r0, p);
+    let a = only_open(pieces, s.b0, r0, p, rising);
     let Found::At(t) = a else {
         return Found::Nothing;
     };
-    let b = find(pieces, t + 1, r0, p);
-    let Found::Nothing = b else {
-        return Found::Nothing;
-    };
     let o = entry_at(pieces, wholes, s.n, t);
-    if count_over(pieces, r0, s.r1, piece_at(pieces, t)) != 1 {
+    if !meets_one(pieces, r0, s.r1, j, piece_at(pieces, t), rising) {
         return Found::Nothing;
     }
     let rule = f.rule;
@@ -229,11 +276,12 @@ fn mark_at(
     s: Row,
     new: usize,
     j: usize,
+    rising: bool,
 ) -> Mark
-    requires { ⌜ Layout (now corners) (now ends) × Ranges s (now pieces) (now wholes) × (j < s .r1) × Low (s .n) (s .b0) (s .r0) (now wholes) 1000000 ⌝ }
+    requires { ⌜ Layout (now corners) (now ends) × Ranges s (now pieces) (now wholes) × (j < s .r1) × Low (s .n) (s .b0) (s .r0) (now wholes) 1000000 × (s .r0 ≤ j) × Risen (now pieces) (s .b0) (s .r0) rising × Risen (now pieces) (s .r0) (s .r1) rising ⌝ }
     ensures { λ r. ⌜ (r ≡ markAt (rings (now (corners .entry)) (now (ends .entry))) (f .rule) (f .settings) (now (pieces .entry)) (now (wholes .entry)) s new j) ⌝ }
 {
-    let o = joins(corners, ends, f, pieces, wholes, s, j);
+    let o = joins(corners, ends, f, pieces, wholes, s, j, rising);
     let Found::At(t) = o else {
         return Mark {
             section: new,
@@ -274,14 +322,15 @@ fn mark_row(
     wholes: &mut [usize],
     s: Row,
     new: usize,
+    rising: bool,
 ) -> usize
-    requires { ⌜ Layout (now corners) (now ends) × Ranges s (now pieces) (now wholes) × Low (s .n) (s .b0) (s .r0) (now wholes) 1000000 × (s .n ≤ 10000000) × (new ≤ s .r0) ⌝ }
+    requires { ⌜ Layout (now corners) (now ends) × Ranges s (now pieces) (now wholes) × Low (s .n) (s .b0) (s .r0) (now wholes) 1000000 × (s .n ≤ 10000000) × (new ≤ s .r0) × Risen (now pieces) (s .b0) (s .r0) rising × Risen (now pieces) (s .r0) (s .r1) rising ⌝ }
     ensures { λ r. ⌜ Wrote (now (wholes .entry)) (now (wholes .exit)) (s .n + 2 * s .r0) (rowMarks (rings (now (corners .entry)) (now (ends .entry))) (f .rule) (f .settings) (now (pieces .entry)) (now (wholes .entry)) s new (s .r0) (s .r1 - s .r0)) × (r ≡ rowNew (rings (now (corners .entry)) (now (ends .entry))) (f .rule) (f .settings) (now (pieces .entry)) (now (wholes .entry)) s new (s .r0) (s .r1 - s .r0)) × (r ≤ s .r1) ⌝ }
 {
     let mut j = s.r0;
     let mut section = new;
     while j < s.r1 {
-        let m = mark_at(corners, ends, f, pieces, wholes, s, section, j);
+        let m = mark_at(corners, ends, f, pieces, wholes, s, section, j, rising);
         put_mark(wholes, s.n + 2 * j, m);
         section = after(section, m);
         j += 1;
@@ -329,7 +378,8 @@ pub fn mark_all(
             r0: r0,
             r1: r1,
         };
-        section = mark_row(corners, ends, f, pieces, wholes, s, section);
+        let rising = rows_rise(pieces, s);
+        section = mark_row(corners, ends, f, pieces, wholes, s, section, rising);
         b0 = r0;
         r0 = r1;
         r += 1;

@@ -18,27 +18,32 @@ loop-holds c = let a = c .before .before .before .before .args in marking-start 
 row-end-requires : tie.Need-row-end-requires Inv-loop μ-loop
 row-end-requires c κs = (c .before .before .loop .inv .within, omega (arith, c .before .before .loop .inv .run .size, c .before .before .before .before .before .before .before .pre .2))
 
+rows-rise-requires : tie.Need-rows-rise-requires Inv-loop μ-loop
+rows-rise-requires c κs = (c .before .before .before .loop .inv .opens, c .row-end .ensures .1, omega (arith, c .row-end .ensures .2, c .before .before .before .before .before .before .before .before .pre .1))
+
 mark-row-requires : tie.Need-mark-row-requires Inv-loop μ-loop
 mark-row-requires c κs =
-    let a = c .before .before .before .before .before .before .before .before .before .args in
-    let v = c .before .before .before .before .loop .inv in
-    let e = c .before .row-end .ensures in (
-      c .before .before .before .before .before .before .before .before .before .pre .0,
-      record { opens = v .opens; row = e .1; all = e .2; floats = c .before .before .before .before .before .before .before .before .before .pre .1; marks = omega (arith, v .run .size, c .before .before .before .before .before .before .before .before .before .pre .2) },
-      marking-low (rings (a .corners .now) (a .ends .now)) (a .f .rule) (a .f .settings) (a .pieces .now) (a .wholes .now) (a .n) (a .rows) v (c .before .before .before .before .before .before .before .before .before .pre .4),
-      c .before .before .before .before .before .before .before .before .before .pre .3,
+    let a = c .before .before .before .before .before .before .before .before .before .before .args in
+    let v = c .before .before .before .before .before .loop .inv in
+    let e = c .before .before .row-end .ensures in (
+      c .before .before .before .before .before .before .before .before .before .before .pre .0,
+      record { opens = v .opens; row = e .1; all = e .2; floats = c .before .before .before .before .before .before .before .before .before .before .pre .1; marks = omega (arith, v .run .size, c .before .before .before .before .before .before .before .before .before .before .pre .2) },
+      marking-low (rings (a .corners .now) (a .ends .now)) (a .f .rule) (a .f .settings) (a .pieces .now) (a .wholes .now) (a .n) (a .rows) v (c .before .before .before .before .before .before .before .before .before .before .pre .4),
+      c .before .before .before .before .before .before .before .before .before .before .pre .3,
       v .most,
+      c .before .rows-rise .ensures .0,
+      c .before .rows-rise .ensures .1,
     )
 
 add-r : tie.Need-add-r Inv-loop μ-loop
-add-r c = omega (arith, c .before .before .before .before .before .before .before .before .before .before .before .before .pre .4)
+add-r c = omega (arith, c .before .before .before .before .before .before .before .before .before .before .before .before .before .pre .4)
 
 loop-again : tie.Need-loop-again Inv-loop μ-loop
 loop-again c =
-    let a = c .before .before .before .before .before .before .before .before .before .before .before .before .args in
-    let e = c .before .before .before .before .row-end .ensures in
+    let a = c .before .before .before .before .before .before .before .before .before .before .before .before .before .args in
+    let e = c .before .before .before .before .before .row-end .ensures in
     let x = c .before .before .mark-row .ensures in
-    marking-next (rings (a .corners .now) (a .ends .now)) (a .f .rule) (a .f .settings) (a .pieces .now) (a .wholes .now) (a .n) (a .rows) (c .before .before .before .before .before .before .before .before .before .before .before .before .pre .2) (c .before .before .before .before .before .before .before .loop .inv) (c .before .before .before .before .before .before .loop-test .taken) (e .0) (e .1) (e .2) (x .0) (x .1) (x .2)
+    marking-next (rings (a .corners .now) (a .ends .now)) (a .f .rule) (a .f .settings) (a .pieces .now) (a .wholes .now) (a .n) (a .rows) (c .before .before .before .before .before .before .before .before .before .before .before .before .before .pre .2) (c .before .before .before .before .before .before .before .before .loop .inv) (c .before .before .before .before .before .before .before .loop-test .taken) (e .0) (e .1) (e .2) (x .0) (x .1) (x .2)
 
 same-length : tie.Need-same-length Inv-loop μ-loop
 same-length c = c .before .loop .inv .run .size
@@ -52,4 +57,4 @@ returns c =
 
 pub mark-all-spec : {M : Type 1} → statement M
 mark-all-spec =
-    tie.close (tie.spec Inv-loop μ-loop loop-holds row-end-requires mark-row-requires add-r (λ c. search needs) loop-again same-length returns)
+    tie.close (tie.spec Inv-loop μ-loop loop-holds row-end-requires rows-rise-requires mark-row-requires add-r (λ c. search needs) loop-again same-length returns)
