@@ -285,6 +285,7 @@ fn timed_tatami(mut function: Function) -> Function {
     cases.extend(corners.map(|(n, f)| (format!("100 rows, {n} corners"), f)));
     let rows = crests::by_rows().into_iter();
     cases.extend(rows.map(|(n, f)| (format!("40 corners, {n} rows"), f)));
+    cases.extend(crests::large().into_iter().map(|(n, f)| (n.into(), f)));
     for (name, fill) in cases {
         function = function.timed_on(
             format!("tatami {name}"),

@@ -43,6 +43,34 @@ pub fn by_rows() -> Vec<(usize, Fill)> {
     [100, 200, 500, 1000, 2000, 4096].map(fill).to_vec()
 }
 
+/// The largest outline with the most rows, and one with many pieces in each of its rows.
+pub fn large() -> Vec<(&'static str, Fill)> {
+    let ring = Fill {
+        spacing: 0.5,
+        ..traced(&[wavy(1024, P::new(0.0, 0.0), 920.0)])
+    };
+    vec![
+        ("1024 corners, 4,086 rows", ring),
+        ("comb of 255 teeth, 400 rows", traced(&[comb(255, 1600.0)])),
+    ]
+}
+
+/// Teeth of 1 mm, 1 mm apart, up from a bar.
+fn comb(teeth: usize, height: f64) -> Polyline {
+    let mut ring = vec![P::new(0.0, height + 10.0)];
+    for k in 0..teeth {
+        let x = 20.0 * k as f64;
+        ring.push(P::new(x, 0.0));
+        ring.push(P::new(x + 10.0, 0.0));
+        ring.push(P::new(x + 10.0, height));
+        ring.push(P::new(x + 20.0, height));
+    }
+    ring.pop();
+    ring.pop();
+    ring.push(P::new(20.0 * teeth as f64 - 10.0, height + 10.0));
+    ring
+}
+
 /// Straight on top, sides that bend to a tip.
 fn shield(corners: usize, half: f64, height: f64) -> Polyline {
     let side = corners / 2 - 1;
