@@ -285,7 +285,6 @@ fn timed_tatami(mut function: Function) -> Function {
     cases.extend(corners.map(|(n, f)| (format!("100 rows, {n} corners"), f)));
     let rows = crests::by_rows().into_iter();
     cases.extend(rows.map(|(n, f)| (format!("40 corners, {n} rows"), f)));
-    cases.extend(crests::large().into_iter().map(|(n, f)| (n.into(), f)));
     for (name, fill) in cases {
         function = function.timed_on(
             format!("tatami {name}"),
@@ -298,7 +297,7 @@ fn timed_tatami(mut function: Function) -> Function {
 }
 
 fn timed_row_list(mut function: Function) -> Function {
-    for (name, fill) in crests::named() {
+    for (name, fill) in crests::named().into_iter().chain(crests::large()) {
         function = function.timed_on(
             format!("row_list {name}"),
             move |_| vec![Timed::new(&fill, owed::row_list_need)],
