@@ -1,4 +1,4 @@
-// Rows whose pieces go to the right, as the rows of an accepted fill do: there bisection and two neighbours find what a scan would.
+// Rows whose pieces go to the right, which is tested and never assumed: there bisection and two neighbours find what a scan would.
 ghost use mathlib.Core.Path.{_≡_};
 ghost use mathlib.Core.Bool.{true, not, _&&_};
 ghost use Prim.Native.Nat.{_+_, _-_, _*_, _≤_, _<_};
