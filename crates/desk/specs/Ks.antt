@@ -14,7 +14,8 @@ use Rattle.geom.specs.Winding.{ring, winding}
 use Rattle.geom.specs.Inside.{inside, pointInside}
 use Rattle.geom.specs.Outline.{points, cut, rings, rising}
 use Rattle.geom.specs.Limits.{largest, within, goodNumber, goodNumbers, goodSpacing, goodLen, goodInset, goodTurn, goodOutline}
-use Rattle.rules.specs.Calls.{goodSettings, gate, roomed, refusal, sewnPoints, sewnEnds, tatamiAnswer}
+use Rattle.rules.specs.Fill.{goodSettings, gate, roomed, refusal}
+use Rattle.rules.specs.Calls.{sewnPoints, sewnEnds, tatamiAnswer}
 use Rattle.rules.specs.Fill.{sidesTo, sides, edgeOf, keptSide, turned, edges, howMany, through, ymin, ymax, kLo, kHi, rowNumbers, rowAt, starts, lives, crossX, byX, crossed, dir, crossing, spans, shrink, pieceOf, minRow, wide, piecesAt, piecesOf, overlap, linkEnds, linkInside, connects, joined, joins, rowEntries, begun, entries, met, rowList, section, sections, cycle, remEuclid, offset, minEnd, m0, m1, needles, rowPoints, parts, between, sewFrom, sew, sewn, tatami}
 use Rattle.geom.specs.Sewing.{flat}
 use Rattle.jobs.specs.Job.{value, number, float, floats, goodHead, ruleOf, settingsOf, count, behind, counted, endsFrom, cornersFrom, jobOf, corners, ends, decoded, parsed}

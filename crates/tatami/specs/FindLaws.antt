@@ -18,10 +18,9 @@ use Rattle.geom.specs.Limits.{goodOutline}
 use Rattle.geom.specs.LimitsLaws.{outline-layout}
 use Rattle.rules.specs.declared.Edge.{Edge}
 use Rattle.rules.specs.declared.Piece.{Piece}
-use Rattle.rules.specs.Fill.{edges, rowNumbers, rowList}
+use Rattle.rules.specs.Fill.{edges, rowNumbers, rowList, needFloats, needWholes}
 use Rattle.rules.specs.PieceTable.{pieceBlock, rowCounts}
 use Rattle.rules.specs.Sections.{entries-pieces}
-use Rattle.rules.specs.Calls.{needFloats, needWholes}
 use Rattle.rules.specs.Accepted.{laid-out, checked}
 use Rattle.rules.specs.Theorems.{edges-bounded, pieces-bounded}
 use Rattle.edges.specs.Table.{edgeBlock, edgePlace, edgesIn, Outline}

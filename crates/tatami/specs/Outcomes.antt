@@ -12,9 +12,9 @@ use Rattle.numbers.specs.Num.{zero64}
 use Rattle.geom.specs.declared.rule.FillRule.{FillRule}
 use Rattle.geom.specs.Outline.{rings}
 use Rattle.rules.specs.declared.Settings.{Settings}
-use Rattle.rules.specs.Fill.{rowList, tatami}
+use Rattle.rules.specs.Fill.{rowList, tatami, gate, roomed, refusal}
 use Rattle.geom.specs.Sewing.{flat}
-use Rattle.rules.specs.Calls.{gate, roomed, refusal, sewnPoints, sewnEnds, sewnFits, tatamiAnswer, listedFloats, listedRows, listedSections, listFits, rowListAnswer}
+use Rattle.rules.specs.Calls.{sewnPoints, sewnEnds, sewnFits, tatamiAnswer, listedFloats, listedRows, listedSections, listFits, rowListAnswer}
 use Rattle.rules.specs.CallLaws.{gate-through, gate-stop}
 use Rattle.rules.specs.Accepted.{Accepted}
 use Rattle.tatami.specs.declared.Filled.{Filled}

@@ -22,8 +22,8 @@ use Rattle.geom.specs.Outline.{rings}
 use Rattle.rules.specs.declared.Settings.{Settings}
 use Rattle.rules.specs.declared.Edge.{Edge}
 use Rattle.rules.specs.declared.Entry.{Entry}
-use Rattle.rules.specs.Fill.{edges, rowNumbers, section, begun, rowList, sewn, tatami}
-use Rattle.rules.specs.Calls.{needFloats, needWholes, roomed, counted, written, worked, sewnPoints, sewnFits, listFits}
+use Rattle.rules.specs.Fill.{edges, rowNumbers, section, begun, rowList, sewn, tatami, needFloats, needWholes, roomed}
+use Rattle.rules.specs.Calls.{counted, written, worked, sewnPoints, sewnFits, listFits}
 use Rattle.edges.specs.declared.rows.Rows.{Rows}
 use Rattle.edges.specs.Span.{rowsOf}
 use Rattle.sewing.specs.declared.Field.{Field}

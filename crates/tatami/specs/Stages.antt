@@ -16,8 +16,8 @@ use Rattle.geom.specs.Sewing.{flat}
 use Rattle.rules.specs.declared.Settings.{Settings}
 use Rattle.rules.specs.declared.Piece.{Piece}
 use Rattle.rules.specs.declared.Entry.{Entry}
-use Rattle.rules.specs.Fill.{edges, rowNumbers, piecesOf, met, begun, rowList, sewn, tatami}
-use Rattle.rules.specs.Calls.{gate, needFloats, needWholes, written, sewnPoints, sewnEnds, sewnFits, listedFloats, listedRows, listedSections, listFits}
+use Rattle.rules.specs.Fill.{edges, rowNumbers, piecesOf, met, begun, rowList, sewn, tatami, gate, needFloats, needWholes}
+use Rattle.rules.specs.Calls.{written, sewnPoints, sewnEnds, sewnFits, listedFloats, listedRows, listedSections, listFits}
 use Rattle.rules.specs.Accepted.{Accepted}
 use Rattle.edges.specs.declared.rows.Rows.{Rows}
 use Rattle.edges.specs.Span.{rowsOf, rowNumber}

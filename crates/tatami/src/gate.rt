@@ -1,6 +1,6 @@
 // Checks 1 to 5, which look at no slice but the outline.
 ghost use mathlib.Core.Path.{_≡_};
-ghost use Rattle.rules.specs.Calls.{goodSettings};
+ghost use Rattle.rules.specs.Fill.{goodSettings};
 ghost use Rattle.tatami.specs.Stages.{Gated};
 use edges::Rows;
 use edges::rows_of;

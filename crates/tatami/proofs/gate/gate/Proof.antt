@@ -3,8 +3,7 @@ use mathlib.Core.Path.{refl, sym, _∙_}
 use native.Mathlib.Omega.{arith}
 use borrow.Author.Tests.{not-true, not-false}
 use Rattle.geom.specs.Outline.{rings}
-use Rattle.rules.specs.Fill.{edges}
-use Rattle.rules.specs.Calls.{gate}
+use Rattle.rules.specs.Fill.{edges, gate}
 use Rattle.tatami.specs.Stages.{Gated}
 use Rattle.tatami.specs.FindLaws.{outline-of}
 use Rattle.tatami.specs.RoomLaws.{rows-many, rows-within}

@@ -1,7 +1,7 @@
 -- Each setting in turn. Assumes nothing.
 use mathlib.Core.Path.{sym, _∙_}
 use borrow.Author.Tests.{not-true, not-false}
-use Rattle.rules.specs.Calls.{goodSettings}
+use Rattle.rules.specs.Fill.{goodSettings}
 use borrow.Author.Needs.{needs}
 use Rattle.tatami.proofs.gate.good_settings.Statement.{statement}
 use Rattle.tatami.proofs.gate.good_settings.Tie as tie
