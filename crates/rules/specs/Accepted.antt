@@ -18,7 +18,7 @@ use Rattle.seqs.specs.All.{all-take}
 use Rattle.seqs.specs.Tests.{and-both}
 use Rattle.geom.specs.declared.point.P.{P}
 use Rattle.geom.specs.Outline.{points, cut, rings}
-use Rattle.geom.specs.Limits.{largest, within, goodNumber, goodNumbers, goodOutline, goodSpacing, goodLen, goodInset, goodTurn}
+use Rattle.limits.specs.Limits.{largest, within, goodNumber, goodNumbers, goodOutline, goodSpacing, goodLen, goodInset, goodTurn}
 use Rattle.rules.specs.Alls.{all-drop}
 use Rattle.rules.specs.declared.Settings.{Settings}
 use Rattle.rules.specs.Fill.{edges, rowNumbers, goodSettings, gate}

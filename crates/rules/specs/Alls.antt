@@ -1,6 +1,6 @@
 -- Of all the elements of a list that is dropped from, made from parts, mapped or read; and of lists that are mapped. Assumes nothing.
 use mathlib.Core.Path.{_≡_, refl, ap, _∙_}
-use mathlib.Core.List.{List, [], _∷_, _++_, map, reverse, reverse-cons, Permᴰ·symm, Permᴰ·reverse}
+use mathlib.Core.List.{List, [], _∷_, _++_, map, reverse, reverse-cons, Permᴰ·symm, Permᴰ·reverse, map-append}
 use Prim.Native.Nat.{ℕ, zero, suc}
 use lib.ListN.{drop, getD}
 use Rattle.seqs.specs.Lists.{each, All}
@@ -39,10 +39,6 @@ module _ {A : Type 0} where
     all-parts f h (a ∷ l) k = all-append R (f a) (each f l) (h a (k .0)) (all-parts f h l (k .1))
 
 module _ {A B : Type 0} (f : A → B) where
-  pub map-append : (l m : List A) → map f (l ++ m) ≡ map f l ++ map f m
-  map-append [] m = refl
-  map-append (a ∷ l) m = ap (λ r. f a ∷ r) (map-append l m)
-
   pub map-reverse : (l : List A) → map f (reverse l) ≡ reverse (map f l)
   map-reverse [] = refl
-  map-reverse (a ∷ l) = rw (reverse-cons a l, reverse-cons (f a) (map f l)) (map-append (reverse l) (a ∷ []) ∙ ap (λ r. r ++ (f a ∷ [])) (map-reverse l))
+  map-reverse (a ∷ l) = rw (reverse-cons a l, reverse-cons (f a) (map f l)) (map-append f (reverse l) (a ∷ []) ∙ ap (λ r. r ++ (f a ∷ [])) (map-reverse l))

@@ -9,7 +9,7 @@ use lib.ListN.{length}
 use lib.Ieee.{Float}
 use Rattle.refusal.specs.Refusal.{DONE, LAYOUT, NUMBER, SETTING, TURN, SIZE}
 use Rattle.geom.specs.Outline.{rings}
-use Rattle.geom.specs.Limits.{goodOutline, goodNumbers, goodTurn}
+use Rattle.limits.specs.Limits.{goodOutline, goodNumbers, goodTurn}
 use Rattle.rules.specs.declared.Settings.{Settings}
 use Rattle.rules.specs.Fill.{edges, rowNumbers, goodSettings, gate}
 

@@ -10,7 +10,7 @@ use Rattle.refusal.specs.Refusal.{DONE}
 use Rattle.seqs.specs.Lists.{each}
 use Rattle.geom.specs.declared.point.P.{P}
 use Rattle.geom.specs.Outline.{rings}
-use Rattle.geom.specs.declared.rule.FillRule.{FillRule}
+use Rattle.outlines.specs.declared.rule.FillRule.{FillRule}
 use Rattle.rules.specs.declared.Settings.{Settings}
 use Rattle.rules.specs.declared.Entry.{Entry}
 use Rattle.rules.specs.Fill.{rowList, tatami, refusal}

@@ -18,12 +18,12 @@ use Rattle.seqs.specs.Sift.{sift-length}
 use Rattle.seqs.specs.Sort.{sort-perm, perm-length}
 use Rattle.seqs.specs.Upto.{upto-length}
 use Rattle.geom.specs.declared.point.P.{P}
-use Rattle.geom.specs.declared.rule.FillRule.{FillRule}
+use Rattle.outlines.specs.declared.rule.FillRule.{FillRule}
 use Rattle.geom.specs.Point.{rotate}
 use Rattle.geom.specs.Outline.{points, cut, rings, rising}
 use Rattle.geom.specs.OutlineLaws.{points-length, rising-le}
-use Rattle.geom.specs.Inside.{inside}
-use Rattle.geom.specs.Limits.{goodOutline}
+use Rattle.outlines.specs.Inside.{inside}
+use Rattle.limits.specs.Limits.{goodOutline}
 use Rattle.rules.specs.declared.Settings.{Settings}
 use Rattle.rules.specs.declared.Edge.{Edge}
 use Rattle.rules.specs.FillSections.{pieces-of-rows}

@@ -16,11 +16,11 @@ use Rattle.numbers.specs.Whole.{floor, ceil}
 use Rattle.seqs.specs.Lists.{upto, keepIf, sift, each, fold, sortBy, byKey}
 use Rattle.geom.specs.declared.point.P.{P}
 use Rattle.geom.specs.Point.{point, rotate, dist}
-use Rattle.geom.specs.declared.rule.FillRule.{FillRule}
+use Rattle.outlines.specs.declared.rule.FillRule.{FillRule}
 use Rattle.geom.specs.Outline.{rings}
-use Rattle.geom.specs.Limits.{goodOutline, goodNumbers, goodSpacing, goodLen, goodInset, goodStagger, goodTurn}
+use Rattle.limits.specs.Limits.{goodOutline, goodNumbers, goodSpacing, goodLen, goodInset, goodStagger, goodTurn}
 use Rattle.geom.specs.Steps.{along}
-use Rattle.geom.specs.Inside.{inside, pointInside}
+use Rattle.outlines.specs.Inside.{inside, pointInside}
 use Rattle.rules.specs.declared.Settings.{Settings}
 use Rattle.rules.specs.declared.Edge.{Edge}
 use Rattle.rules.specs.declared.Piece.{Piece}

@@ -18,8 +18,8 @@ use Rattle.seqs.specs.Sift.{sift-pass}
 use Rattle.seqs.specs.Sort.{sort-perm}
 use Rattle.seqs.specs.Upto.{upto-all}
 use Rattle.geom.specs.declared.point.P.{P}
-use Rattle.geom.specs.declared.rule.FillRule.{FillRule}
-use Rattle.geom.specs.Inside.{inside}
+use Rattle.outlines.specs.declared.rule.FillRule.{FillRule}
+use Rattle.outlines.specs.Inside.{inside}
 use Rattle.rules.specs.declared.Settings.{Settings}
 use Rattle.rules.specs.declared.Edge.{Edge}
 use Rattle.rules.specs.declared.Piece.{Piece}

@@ -15,7 +15,7 @@ use Rattle.numbers.specs.Value.{Within, IsWhole}
 use Rattle.seqs.specs.Lists.{sortBy, fold, insertBack, each, All}
 use Rattle.seqs.specs.Sort.{backs-sort}
 use Rattle.seqs.specs.All.{all-map}
-use Rattle.geom.specs.declared.rule.FillRule.{FillRule}
+use Rattle.outlines.specs.declared.rule.FillRule.{FillRule}
 use Rattle.geom.specs.declared.point.P.{P}
 use Rattle.geom.specs.Point.{rotate, dist}
 use Rattle.geom.specs.Steps.{along}

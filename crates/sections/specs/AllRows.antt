@@ -19,7 +19,7 @@ use Rattle.seqs.specs.All.{all-sift}
 use Rattle.seqs.specs.Sift.{sift-append}
 use Rattle.seqs.specs.Each.{each-append}
 use Rattle.geom.specs.declared.point.P.{P}
-use Rattle.geom.specs.declared.rule.FillRule.{FillRule}
+use Rattle.outlines.specs.declared.rule.FillRule.{FillRule}
 use Rattle.rules.specs.declared.Settings.{Settings}
 use Rattle.rules.specs.declared.Piece.{Piece}
 use Rattle.rules.specs.declared.Entry.{Entry}

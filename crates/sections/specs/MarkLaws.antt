@@ -8,7 +8,7 @@ use lib.Ieee.{Float}
 use Rattle.seqs.specs.Lists.{keepIf}
 use Rattle.seqs.specs.Reads.{fuel-more, fuel-none}
 use Rattle.geom.specs.declared.point.P.{P}
-use Rattle.geom.specs.declared.rule.FillRule.{FillRule}
+use Rattle.outlines.specs.declared.rule.FillRule.{FillRule}
 use Rattle.rules.specs.declared.Settings.{Settings}
 use Rattle.rules.specs.declared.Piece.{Piece}
 use Rattle.rules.specs.declared.Entry.{Entry}

@@ -3,7 +3,7 @@ use Prim.Native.Nat.{ℕ, zero, suc, _+_, _-_, _*_, _<_}
 use native.Mathlib.Omega.{arith}
 use mathlib.Core.Path.{_≡_, refl, sym, ap, _∙_, subst}
 use mathlib.Core.Bool.{Bool, true, false, cond, _&&_}
-use mathlib.Core.List.{List, [], _∷_, _++_, map, append-assoc}
+use mathlib.Core.List.{List, [], _∷_, _++_, map, append-assoc, map-append}
 use mathlib.Core.Option.{Option, none, some}
 use borrow.Author.Tests.{eq-eqb, ne-eqb}
 use lib.Dec.{eqb}
@@ -15,11 +15,10 @@ use Rattle.seqs.specs.Lists.{upto, sift, each, takeWhile}
 use Rattle.seqs.specs.Sift.{sift-map}
 use Rattle.seqs.specs.Each.{each-append, each-length}
 use Rattle.geom.specs.declared.point.P.{P}
-use Rattle.geom.specs.declared.rule.FillRule.{FillRule}
+use Rattle.outlines.specs.declared.rule.FillRule.{FillRule}
 use Rattle.rules.specs.declared.Settings.{Settings}
 use Rattle.rules.specs.declared.Piece.{Piece}
 use Rattle.rules.specs.declared.Entry.{Entry}
-use Rattle.rules.specs.Alls.{map-append}
 use Rattle.rules.specs.Fill.{overlap, linkEnds, connects, only, joined, joins, entry, after, rowEntries, begun, entries}
 use Rattle.rules.specs.PieceTable.{pieceBlock, rowCounts}
 use Rattle.rules.specs.Sections.{entries-pieces}

@@ -17,7 +17,7 @@ use Rattle.seqs.specs.Sift.{sift-none, sift-pass}
 use Rattle.seqs.specs.Tests.{clash, refute, and-both}
 use Rattle.seqs.specs.Upto.{upto-all, upto-jump}
 use Rattle.geom.specs.declared.point.P.{P}
-use Rattle.geom.specs.declared.rule.FillRule.{FillRule}
+use Rattle.outlines.specs.declared.rule.FillRule.{FillRule}
 use Rattle.rules.specs.declared.Settings.{Settings}
 use Rattle.rules.specs.declared.Piece.{Piece}
 use Rattle.rules.specs.Fill.{overlap}

@@ -1,7 +1,7 @@
 // Module 4, the fill of square Q: K1, and the checks that are run only.
 use crate::say;
-use geom::FillRule;
 use leaves::to_bits;
+use outlines::FillRule;
 use rules::Settings;
 use tatami::Filled;
 use tatami::tatami;

@@ -34,9 +34,10 @@ use Rattle.sections.specs.Mark.{flatMarks, markedIn}
 use Rattle.sections.specs.Marked.{marked-marks, marked-begun, marked-length}
 use Rattle.sewing.specs.Sewing.{rowNumber as sewnRow, entryAt, entriesIn, numbersIn, links, Marked, Linked}
 use Rattle.sewing.specs.LinkedLaws.{entries-kept, entries-length, numbers-are, put-kept, linked}
-use Rattle.tatami.specs.declared.Plan.{Plan}
-use Rattle.tatami.specs.Stages.{Passed, alone, Lent, fieldOf, Sectioned, listOf, rowsIn}
-use Rattle.tatami.specs.FindLaws.{spans-rows, outlined}
+use Rattle.finding.specs.declared.Plan.{Plan}
+use Rattle.finding.specs.Stages.{Passed, alone}
+use Rattle.tatami.specs.Stages.{Lent, fieldOf, Sectioned, listOf, rowsIn}
+use Rattle.finding.specs.FindLaws.{spans-rows, outlined}
 
 -- ---- lists
 

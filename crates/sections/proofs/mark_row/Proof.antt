@@ -5,7 +5,7 @@ use native.Mathlib.Omega.{arith}
 use lib.Ieee.{Float}
 use Rattle.seqs.specs.Wrote.{Run, run-start, run-at, run-step, run-end}
 use Rattle.geom.specs.declared.point.P.{P}
-use Rattle.geom.specs.declared.rule.FillRule.{FillRule}
+use Rattle.outlines.specs.declared.rule.FillRule.{FillRule}
 use Rattle.geom.specs.Outline.{rings}
 use Rattle.rules.specs.declared.Settings.{Settings}
 use Rattle.sections.specs.Mark.{rowMarks, rowNew}

@@ -10,7 +10,7 @@ use Rattle.rules.specs.Calls.{listedFloats, listedRows, listedSections}
 use Rattle.sewing.specs.Sewing.{numbersIn}
 use Rattle.sewing.specs.LinkedLaws.{numbers-length}
 use Rattle.tatami.specs.Stages.{listOf, rowsIn}
-use Rattle.tatami.specs.FindLaws.{spans-rows}
+use Rattle.finding.specs.FindLaws.{spans-rows}
 use Rattle.tatami.specs.EntryLaws.{layout, few-pieces, few-rows, count-is, floats-listed, rows-listed, sections-listed, rows-length, counts-in}
 use Rattle.tatami.specs.RoomLaws.{list-room}
 use Rattle.tatami.specs.Outcomes.{front-is}
