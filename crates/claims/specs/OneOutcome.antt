@@ -51,6 +51,7 @@ leaf-one (leaf.Value v) (leaf.Value w) e = ap leaf.Value (done-one e)
 leaf-one (leaf.Value v) (leaf.Refused n) e = absurd (done-refused e)
 leaf-one (leaf.Refused m) (leaf.Value w) e = absurd (refused-done e)
 leaf-one (leaf.Refused m) (leaf.Refused n) e = ap leaf.Refused (refused-one Float e)
+
 place-one : (r s : Place) → saidPlace r ≡ saidPlace s → r ≡ s
 place-one place.Before place.Before e = refl
 place-one place.Before place.Same e = let d : 0 ≡ 1 = done-one e in absurd (omega arith)

@@ -33,6 +33,8 @@ use Rattle.rules.specs.Counts.{edges-few, pieces-few}
 use Rattle.rules.specs.FillSections.{rows-down}
 use Rattle.rules.specs.Edges.{Good, edges-good}
 use Rattle.rules.specs.Pieces.{Small, crosses-within, pieces-small}
+use Rattle.rules.specs.Rise.{Rise}
+use Rattle.rules.specs.RowsRise.{row-rises}
 use Rattle.rules.specs.Stitches.{Inner, m0-whole, m1-whole, parts-whole, targets-inner, section-small, sewn-finite, link-finite}
 use Rattle.rules.specs.Rows.{Fair, row-within, row-ends-whole, rows-fair, rows-fall, rows-strict, starts-in-order}
 
@@ -101,6 +103,10 @@ module _ (corners : List Float) (ends : List ℕ) (g : Settings) (stagger : ℕ)
 
   pub crossings-finite : All (λ k. All (λ i. Within 22 (crossX es (rowAt g k) i)) (crossed es (rowAt g k))) ks
   crossings-finite = all-map (crosses-within (rings corners ends) g stagger known) ks (rows-fair (rings corners ends) g stagger known)
+
+  -- no step is quadratic in pieces: the rows of an accepted fill rise
+  pub rows-rise : (rule : FillRule) → All (λ k. Rise (piecesOf rule g es k)) ks
+  rows-rise rule = all-map (row-rises (rings corners ends) g stagger known rule) ks (rows-fair (rings corners ends) g stagger known)
 
   module _ (rule : FillRule) (bottomUp : Bool) where
     -- every piece of the row list

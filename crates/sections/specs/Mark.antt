@@ -38,11 +38,6 @@ over l p t = overlap (pieceIn l t) p
 abbrev pub under : List Float → Piece → ℕ → Bool
 under l o j = overlap o (pieceIn l j)
 
--- the first of them
-abbrev pub Hit : (ℕ → Bool) → ℕ → ℕ → Found → Type 0
-Hit p i n (At t) = (hits p i n ≡ t ∷ hits p (t + 1) n) × (t < n) × (i ≤ t)
-Hit p i n Nothing = hits p i n ≡ []
-
 unfoldable pub countOf : (ℕ → Bool) → ℕ → ℕ → ℕ
 countOf p i n = length (hits p i n)
 

@@ -3,8 +3,8 @@ use native.Mathlib.Omega.{arith}
 use borrow.Author.Tests.{not-true, not-false}
 use Rattle.sections.specs.RiseLaws.{only-none, only-right, only-two, only-last, only-one}
 use borrow.Author.Needs.{needs}
-use Rattle.sections.proofs.rise.only_rising.Statement.{statement}
-use Rattle.sections.proofs.rise.only_rising.Tie as tie
+use Rattle.sections.proofs.rise.only_open.Statement.{statement}
+use Rattle.sections.proofs.rise.only_open.Tie as tie
 
 first-past-requires : tie.Need-first-past-requires
 first-past-requires c κs = c .before .pre
@@ -24,6 +24,6 @@ returns-4 c = let a = c .before .before .before .before .before .before .before 
 returns-5 : tie.Need-returns-5
 returns-5 c = let a = c .before .before .before .before .before .before .before .before .before .before .args in let k = c .before .before .before .before .before .before .before .before .first-past .ensures in (only-one (a .pieces .now) (a .b0) (a .r0) (c .before .before .before .before .before .before .before .before .before .before .pre .0) (a .p) _ (k .low) (k .high) (k .before) (c .before .before .before .before .before .before .before .if1 .left) (k .after _ (omega arith) (c .before .before .before .before .before .before .before .if1 .left)) (sym (rw (c .before .before .before .before .before .before .piece-at .ensures) at (c .before .before .before .before .before .overlap .ensures)) ∙ not-false _ (c .before .before .before .before .if2 .left)) (c .before .before .before .if3 .left) (sym (rw (c .before .before .piece-at2 .ensures) at (c .before .overlap2 .ensures)) ∙ c .if4 .left), (k .low, c .before .before .before .before .before .before .before .if1 .left))
 
-pub only-rising-spec : {M : Type 1} → statement M
-only-rising-spec =
+pub only-open-spec : {M : Type 1} → statement M
+only-open-spec =
     tie.close (tie.spec first-past-requires returns (λ c κs. search needs) (λ c κs. search needs) returns-2 (λ c. search needs) returns-3 (λ c. search needs) (λ c κs. search needs) (λ c κs. search needs) returns-4 returns-5)

@@ -1,8 +1,8 @@
 use native.Mathlib.Omega.{arith}
 use Rattle.sections.specs.RiseLaws.{meets-tested, meets-blocked}
 use borrow.Author.Needs.{needs}
-use Rattle.sections.proofs.rise.meets_rising.Statement.{statement}
-use Rattle.sections.proofs.rise.meets_rising.Tie as tie
+use Rattle.sections.proofs.rise.meets_one.Statement.{statement}
+use Rattle.sections.proofs.rise.meets_one.Tie as tie
 
 clear-left-requires : tie.Need-clear-left-requires
 clear-left-requires c κs = omega (arith, c .before .pre .2, c .before .pre .3)
@@ -16,6 +16,6 @@ returns c = let a = c .before .before .before .before .args in meets-tested (a .
 returns-2 : tie.Need-returns-2
 returns-2 c = let a = c .before .before .before .args in meets-blocked (a .pieces .now) (a .r0) (a .r1) (c .before .before .before .pre .0) (a .o) (a .j) (c .before .before .before .pre .1) (c .before .before .before .pre .2) (c .before .before .before .pre .4) (c .before .clear-left .ensures) (c .if1 .left)
 
-pub meets-rising-spec : {M : Type 1} → statement M
-meets-rising-spec =
+pub meets-one-spec : {M : Type 1} → statement M
+meets-one-spec =
     tie.close (tie.spec clear-left-requires clear-right-requires returns returns-2)
