@@ -3,7 +3,7 @@
  * A slice is a pointer and a count of elements. Everything is the caller's: nothing is kept or freed, and the slices
  * of one call must not overlap. A rule is 0 for NonZero, any other number for EvenOdd. A call that can refuse answers
  * one of the numbers below; after a refusal every count is 0 and no output is changed.
- * docs/CALLS.md names the proved function behind each entry, README.md how to lend room. */
+ * docs/CALLS.md names the proved function behind each entry. */
 #ifndef BEAHCEROT_H
 #define BEAHCEROT_H
 

@@ -8,7 +8,7 @@ use native.Mathlib.Omega.{arith}
 use lib.IntN.{ℤ}
 use lib.ListN.{length, drop}
 use lib.Ieee.{Float}
-use Rattle.refusal.specs.Refusal.{Answer}
+use Rattle.refusal.specs.Refusal.{done}
 use Rattle.refusal.specs.AnswerLaws.{done-one, done-refused, refused-done, refused-one}
 use Rattle.refusal.specs.declared.Sewn.{Sewn}
 use Rattle.leaves.specs.declared.checked.Leaf.{Leaf}
@@ -52,17 +52,20 @@ leaf-one (leaf.Value v) (leaf.Refused n) e = absurd (done-refused e)
 leaf-one (leaf.Refused m) (leaf.Value w) e = absurd (refused-done e)
 leaf-one (leaf.Refused m) (leaf.Refused n) e = ap leaf.Refused (refused-one Float e)
 
+apart : (m n : ℕ) → done m ≡ done n → (m ≡ n → ⊥) → ⊥
+apart m n e h = h (done-one e)
+
 place-one : (r s : Place) → saidPlace r ≡ saidPlace s → r ≡ s
 place-one place.Before place.Before e = refl
-place-one place.Before place.Same e = let d : 0 ≡ 1 = done-one e in absurd (omega arith)
-place-one place.Before place.After e = let d : 0 ≡ 2 = done-one e in absurd (omega arith)
+place-one place.Before place.Same e = absurd (apart 0 1 e (omega arith))
+place-one place.Before place.After e = absurd (apart 0 2 e (omega arith))
 place-one place.Before (place.Refused n) e = absurd (done-refused e)
-place-one place.Same place.Before e = let d : 1 ≡ 0 = done-one e in absurd (omega arith)
+place-one place.Same place.Before e = absurd (apart 1 0 e (omega arith))
 place-one place.Same place.Same e = refl
-place-one place.Same place.After e = let d : 1 ≡ 2 = done-one e in absurd (omega arith)
+place-one place.Same place.After e = absurd (apart 1 2 e (omega arith))
 place-one place.Same (place.Refused n) e = absurd (done-refused e)
-place-one place.After place.Before e = let d : 2 ≡ 0 = done-one e in absurd (omega arith)
-place-one place.After place.Same e = let d : 2 ≡ 1 = done-one e in absurd (omega arith)
+place-one place.After place.Before e = absurd (apart 2 0 e (omega arith))
+place-one place.After place.Same e = absurd (apart 2 1 e (omega arith))
 place-one place.After place.After e = refl
 place-one place.After (place.Refused n) e = absurd (done-refused e)
 place-one (place.Refused m) place.Before e = absurd (refused-done e)
@@ -85,71 +88,71 @@ abbrev two : {A B : Type 0} {x a a′ : A} {y b b′ : B} → (a ≡ x) × (b �
 two p q = (one (p .0) (q .0), one (p .1) (q .1))
 
 abbrev three : {A B C : Type 0} {x a a′ : A} {y b b′ : B} {z c c′ : C} → (a ≡ x) × (b ≡ y) × (c ≡ z) → (a′ ≡ x) × (b′ ≡ y) × (c′ ≡ z) → (a ≡ a′) × (b ≡ b′) × (c ≡ c′)
-three p q = (one (p .0) (q .0), two (p .1) (q .1))
+three p q = (one (p .0) (q .0), one (p .1) (q .1), one (p .2) (q .2))
 
 -- ---- the numbers
 
 pub root-outcome : (x : Float) (r s : Leaf) → said r ≡ rootAnswer x → said s ≡ rootAnswer x → r ≡ s
-root-outcome x r s p q = leaf-one r s (one p q)
+root-outcome x r s h k = leaf-one r s (one h k)
 
 pub floor-outcome : (x : Float) (r s : Leaf) → said r ≡ floorAnswer x → said s ≡ floorAnswer x → r ≡ s
-floor-outcome x r s p q = leaf-one r s (one p q)
+floor-outcome x r s h k = leaf-one r s (one h k)
 
 pub ceil-outcome : (x : Float) (r s : Leaf) → said r ≡ ceilAnswer x → said s ≡ ceilAnswer x → r ≡ s
-ceil-outcome x r s p q = leaf-one r s (one p q)
+ceil-outcome x r s h k = leaf-one r s (one h k)
 
 pub magnitude-outcome : (x : Float) (r s : Leaf) → said r ≡ magnitudeAnswer x → said s ≡ magnitudeAnswer x → r ≡ s
-magnitude-outcome x r s p q = leaf-one r s (one p q)
+magnitude-outcome x r s h k = leaf-one r s (one h k)
 
 pub smaller-outcome : (a : Float) (b : Float) (r s : Leaf) → said r ≡ smallerAnswer a b → said s ≡ smallerAnswer a b → r ≡ s
-smaller-outcome a b r s p q = leaf-one r s (one p q)
+smaller-outcome a b r s h k = leaf-one r s (one h k)
 
 pub larger-outcome : (a : Float) (b : Float) (r s : Leaf) → said r ≡ largerAnswer a b → said s ≡ largerAnswer a b → r ≡ s
-larger-outcome a b r s p q = leaf-one r s (one p q)
+larger-outcome a b r s h k = leaf-one r s (one h k)
 
 pub order-outcome : (a : Float) (b : Float) (r s : Place) → saidPlace r ≡ orderAnswer a b → saidPlace s ≡ orderAnswer a b → r ≡ s
-order-outcome a b r s p q = place-one r s (one p q)
+order-outcome a b r s h k = place-one r s (one h k)
 
 -- ---- the geometry
 
 pub dot-outcome : (a : P) (o : P) (r s : Leaf) → said r ≡ dotAnswer a o → said s ≡ dotAnswer a o → r ≡ s
-dot-outcome a o r s p q = leaf-one r s (one p q)
+dot-outcome a o r s h k = leaf-one r s (one h k)
 
 pub len-outcome : (a : P) (r s : Leaf) → said r ≡ lenAnswer a → said s ≡ lenAnswer a → r ≡ s
-len-outcome a r s p q = leaf-one r s (one p q)
+len-outcome a r s h k = leaf-one r s (one h k)
 
 pub dist-outcome : (a : P) (o : P) (r s : Leaf) → said r ≡ distAnswer a o → said s ≡ distAnswer a o → r ≡ s
-dist-outcome a o r s p q = leaf-one r s (one p q)
+dist-outcome a o r s h k = leaf-one r s (one h k)
 
 pub norm-outcome : (a : P) (r s : Spot) → saidSpot r ≡ normAnswer a → saidSpot s ≡ normAnswer a → r ≡ s
-norm-outcome a r s p q = spot-one r s (one p q)
+norm-outcome a r s h k = spot-one r s (one h k)
 
 pub perp-outcome : (a : P) (r s : Spot) → saidSpot r ≡ perpAnswer a → saidSpot s ≡ perpAnswer a → r ≡ s
-perp-outcome a r s p q = spot-one r s (one p q)
+perp-outcome a r s h k = spot-one r s (one h k)
 
 pub rotate-outcome : (a : P) (cos : Float) (sin : Float) (r s : Spot) → saidSpot r ≡ rotateAnswer a cos sin → saidSpot s ≡ rotateAnswer a cos sin → r ≡ s
-rotate-outcome a cos sin r s p q = spot-one r s (one p q)
+rotate-outcome a cos sin r s h k = spot-one r s (one h k)
 
 pub lerp-outcome : (a : P) (o : P) (t : Float) (r s : Spot) → saidSpot r ≡ lerpAnswer a o t → saidSpot s ≡ lerpAnswer a o t → r ≡ s
-lerp-outcome a o t r s p q = spot-one r s (one p q)
+lerp-outcome a o t r s h k = spot-one r s (one h k)
 
 pub cross-outcome : (a : P) (b : P) (r s : Leaf) → said r ≡ crossAnswer a b → said s ≡ crossAnswer a b → r ≡ s
-cross-outcome a b r s p q = leaf-one r s (one p q)
+cross-outcome a b r s h k = leaf-one r s (one h k)
 
 pub inside-outcome : (rule : FillRule) (winding : ℤ) (r s : Truth) → saidTruth r ≡ insideAnswer rule winding → saidTruth s ≡ insideAnswer rule winding → r ≡ s
-inside-outcome rule winding r s p q = truth-one r s (one p q)
+inside-outcome rule winding r s h k = truth-one r s (one h k)
 
 pub winding-outcome : (corners : List Float) (ends : List ℕ) (p : P) (r s : Wound) → saidWound r ≡ windingAnswer corners ends p → saidWound s ≡ windingAnswer corners ends p → r ≡ s
-winding-outcome corners ends p r s p q = wound-one r s (one p q)
+winding-outcome corners ends p r s h k = wound-one r s (one h k)
 
 pub point-inside-outcome : (corners : List Float) (ends : List ℕ) (rule : FillRule) (p : P) (r s : Truth) → saidTruth r ≡ pointInsideAnswer corners ends rule p → saidTruth s ≡ pointInsideAnswer corners ends rule p → r ≡ s
-point-inside-outcome corners ends rule p r s p q = truth-one r s (one p q)
+point-inside-outcome corners ends rule p r s h k = truth-one r s (one h k)
 
 pub segment-inside-outcome : (corners : List Float) (ends : List ℕ) (rule : FillRule) (a : P) (b : P) (step : Float) (r s : Truth) → saidTruth r ≡ segmentInsideAnswer corners ends rule a b step → saidTruth s ≡ segmentInsideAnswer corners ends rule a b step → r ≡ s
-segment-inside-outcome corners ends rule a b step r s p q = truth-one r s (one p q)
+segment-inside-outcome corners ends rule a b step r s h k = truth-one r s (one h k)
 
 pub polyline-length-outcome : (line : List Float) (r s : Leaf) → said r ≡ polylineLengthAnswer line → said s ≡ polylineLengthAnswer line → r ≡ s
-polyline-length-outcome line r s p q = leaf-one r s (one p q)
+polyline-length-outcome line r s h k = leaf-one r s (one h k)
 
 pub resample-outcome : (line : List Float) (len : Float) (out : List Float) {r r′ : Sewn} {o o′ : List Float} → (r ≡ resampleSewn line len (length out)) × (o ≡ resampleOutput line len out) → (r′ ≡ resampleSewn line len (length out)) × (o′ ≡ resampleOutput line len out) → (r ≡ r′) × (o ≡ o′)
 resample-outcome line len out = two
@@ -160,7 +163,7 @@ pub running-outcome : (line : List Float) (closed : Bool) (len : Float) (passes 
 running-outcome line closed len passes out = two
 
 pub made-outcome : (g : Satin) (r s : Made) → saidMade r ≡ madeAnswer g → saidMade s ≡ madeAnswer g → r ≡ s
-made-outcome g r s p q = made-one r s (one p q)
+made-outcome g r s h k = made-one r s (one h k)
 
 pub pairs-outcome : (a : List Float) (b : List Float) (sync : List Float) (step : Float) (work : List Float) (out : List Float) {r r′ : Sewn} {o o′ : List Float} {w w′ : List Float} → (r ≡ pairsSewn a b sync step (length work) (length out)) × (o ≡ pairsOutput a b sync step (length work) out) × (w ≡ pairsWork a b sync step work (length out)) → (r′ ≡ pairsSewn a b sync step (length work) (length out)) × (o′ ≡ pairsOutput a b sync step (length work) out) × (w′ ≡ pairsWork a b sync step work (length out)) → (r ≡ r′) × (o ≡ o′) × (w ≡ w′)
 pairs-outcome a b sync step work out = three
@@ -175,7 +178,7 @@ pub column-outcome : (a : List Float) (b : List Float) (sync : List Float) (g : 
 column-outcome a b sync g work out = three
 
 pub bounds-outcome : (corners : List Float) (ends : List ℕ) (r s : Box) → saidBox r ≡ boundsAnswer corners ends → saidBox s ≡ boundsAnswer corners ends → r ≡ s
-bounds-outcome corners ends r s p q = box-one r s (one p q)
+bounds-outcome corners ends r s h k = box-one r s (one h k)
 
 pub clip-inside-outcome : (line : List Float) (corners : List Float) (ends : List ℕ) (rule : FillRule) (out : List Float) (stops : List ℕ) {r r′ : Lines} {o o′ : List Float} {t t′ : List ℕ} → (r ≡ clipSaid line corners ends rule (length out) (length stops)) × (o ≡ clipPoints line corners ends rule out stops) × (t ≡ clipEnds line corners ends rule out stops) → (r′ ≡ clipSaid line corners ends rule (length out) (length stops)) × (o′ ≡ clipPoints line corners ends rule out stops) × (t′ ≡ clipEnds line corners ends rule out stops) → (r ≡ r′) × (o ≡ o′) × (t ≡ t′)
 clip-inside-outcome line corners ends rule out stops = three
@@ -201,10 +204,10 @@ row-list-outcome corners ends rule g stagger upward ys rows sections floats whol
 pub job-outcome : (bytes : List ℕ) (corners : List Float) (ends : List ℕ) {r r′ : Parsed} {l l′ : List Float} {e e′ : List ℕ} → (r ≡ parsed bytes (length corners) (length ends)) × (l ≡ Job·left r (Job·corners bytes) corners) × (e ≡ Job·left r (Job·ends bytes) ends) → (r′ ≡ parsed bytes (length corners) (length ends)) × (l′ ≡ Job·left r′ (Job·corners bytes) corners) × (e′ ≡ Job·left r′ (Job·ends bytes) ends) → (r ≡ r′) × (l ≡ l′) × (e ≡ e′)
 job-outcome bytes corners ends p q =
     let s = one (p .0) (q .0) in
-    (s, p .1 .0 ∙ ap (λ (r : Parsed). Job·left r (Job·corners bytes) corners) s ∙ sym (q .1 .0), p .1 .1 ∙ ap (λ (r : Parsed). Job·left r (Job·ends bytes) ends) s ∙ sym (q .1 .1))
+    (s, p .1 ∙ ap (λ (r : Parsed). Job·left r (Job·corners bytes) corners) s ∙ sym (q .1), p .2 ∙ ap (λ (r : Parsed). Job·left r (Job·ends bytes) ends) s ∙ sym (q .2))
 
 pub fill-job-outcome : (bytes : List ℕ) (corners : List Float) (ends : List ℕ) (points : List Float) (stops : List ℕ) (floats : List Float) (wholes : List ℕ) {r r′ : Filled} {p p′ f f′ l l′ : List Float} {e e′ w w′ k k′ : List ℕ} → (left r p e f w ≡ jobLeft bytes (length corners) (length ends) points stops floats wholes) × (l ≡ Job·left (parsed bytes (length corners) (length ends)) (Job·corners bytes) corners) × (k ≡ Job·left (parsed bytes (length corners) (length ends)) (Job·ends bytes) ends) → (left r′ p′ e′ f′ w′ ≡ jobLeft bytes (length corners) (length ends) points stops floats wholes) × (l′ ≡ Job·left (parsed bytes (length corners) (length ends)) (Job·corners bytes) corners) × (k′ ≡ Job·left (parsed bytes (length corners) (length ends)) (Job·ends bytes) ends) → ((r ≡ r′) × (p ≡ p′) × (e ≡ e′) × (f ≡ f′) × (w ≡ w′)) × (l ≡ l′) × (k ≡ k′)
-fill-job-outcome bytes corners ends points stops floats wholes h k = (left-parts (one (h .0) (k .0)), two (h .1) (k .1))
+fill-job-outcome bytes corners ends points stops floats wholes h k = (left-parts (one (h .0) (k .0)), one (h .1) (k .1), one (h .2) (k .2))
 
 -- a line's bytes m at the front of out, and their count
 line-one : (m out : List ℕ) {r r′ : ℕ} {o o′ : List ℕ} → (r ≡ length m) × (o ≡ m ++ drop r out) → (r′ ≡ length m) × (o′ ≡ m ++ drop r′ out) → (r ≡ r′) × (o ≡ o′)
