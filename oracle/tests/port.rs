@@ -10,7 +10,7 @@ mod expect;
 mod inputs;
 #[path = "../src/ours.rs"]
 mod ours;
-#[path = "../src/owed.rs"]
+#[path = "../src/owed/mod.rs"]
 mod owed;
 #[path = "../src/rng.rs"]
 mod rng;
@@ -25,7 +25,7 @@ use zigzag::geom::{P, Polyline};
 const QUARTER: f64 = f64::from_bits(0x3c91a62633145c07);
 
 fn port_row_list(f: &Fill) -> Vec<Piece> {
-    let need = owed::row_list_need(f).unwrap();
+    let need = owed::fill::row_list_need(f).unwrap();
     let (mut floats, mut wholes) = (vec![0.0; need[0]], vec![0; need[1]]);
     let mut ys = vec![0.0; need[2]];
     let (mut rows, mut section_numbers) = (vec![0; need[3]], vec![0; need[4]]);
@@ -55,7 +55,7 @@ fn port_row_list(f: &Fill) -> Vec<Piece> {
 }
 
 fn port_tatami(f: &Fill) -> Vec<Polyline> {
-    let need = owed::tatami_need(f).unwrap();
+    let need = owed::fill::tatami_need(f).unwrap();
     let (mut floats, mut wholes) = (vec![0.0; need[0]], vec![0; need[1]]);
     let (mut points, mut ends) = (vec![0.0; need[2]], vec![0; need[3]]);
     let (mut sections, mut count) = (0, 0);

@@ -2,8 +2,10 @@
 
 pub mod badges;
 pub mod boundaries;
+pub mod column_boundaries;
 pub mod crests;
 pub mod fills;
 pub mod lines;
 pub mod numbers;
 pub mod outlines;
+pub mod rails;
