@@ -1,55 +1,95 @@
 //! Satin columns: `split_long`, `s_stitch`, `pairs`, `column`.
 
 use super::{Function, Operands, hex, list, no_tie, simplicity};
+use crate::expect::DONE;
+use crate::inputs::borders;
 use crate::inputs::column_boundaries as boundaries;
 use crate::inputs::fills::{lend, ways};
+use crate::inputs::outlines::points;
 use crate::inputs::rails::{self, Column, Matched, Path, Rails};
 use crate::ours::satin as ours;
 use crate::owed::satin as owed;
 use crate::owed::{Left, MARGIN, MARK, fresh};
 use crate::rng::Rng;
+use std::cell::RefCell;
+use zigzag::satin;
 
 pub fn functions() -> Vec<Function> {
-    vec![
-        function(Calls {
-            name: "split_long",
-            small: boundaries::paths,
-            large: Vec::new,
-            any: rails::path,
-            need: owed::split_long_need,
-            owed: owed::split_long,
-            slices: 1,
-            ours: |p, words| left(words, |s, count| ours::split_long(p, s[0], count)),
-        }),
-        function(Calls {
-            name: "s_stitch",
-            small: boundaries::paths,
-            large: Vec::new,
-            any: rails::path,
-            need: owed::s_stitch_need,
-            owed: owed::s_stitch,
-            slices: 1,
-            ours: |p, words| left(words, |s, count| ours::s_stitch(&p.line, s[0], count)),
-        }),
-        function(Calls {
-            name: "pairs",
-            small: boundaries::matched,
-            large: boundaries::large_matched,
-            any: rails::matched,
-            need: owed::pairs_need,
-            owed: owed::pairs,
-            slices: 2,
-            ours: |m, words| {
-                left(words, |s, count| {
-                    let [work, out] = s else {
-                        unreachable!("two slices")
-                    };
-                    ours::pairs(m, work, out, count)
-                })
-            },
-        }),
-    ]
+    vec![split_long(), s_stitch(), matched()]
 }
+
+fn split_long() -> Function {
+    let calls = Calls {
+        name: "split_long",
+        small: boundaries::paths,
+        large: Vec::new,
+        any: rails::path,
+        need: owed::split_long_need,
+        owed: owed::split_long,
+        slices: 1,
+        ours: |p, lent, count| ours::split_long(p, lent[0], count),
+    };
+    let path = borders::path();
+    let pts = points(&path.line);
+    function(&calls).timed_on(
+        "split_long, 1024 points".into(),
+        move |_| vec![Timed::new(&calls, &path, pts.clone())],
+        |t| satin::split_long(&t.original, t.given.max),
+        Timed::ours,
+    )
+}
+
+fn s_stitch() -> Function {
+    let calls = Calls {
+        name: "s_stitch",
+        small: boundaries::paths,
+        large: Vec::new,
+        any: rails::path,
+        need: owed::s_stitch_need,
+        owed: owed::s_stitch,
+        slices: 1,
+        ours: |p, lent, count| ours::s_stitch(&p.line, lent[0], count),
+    };
+    let path = borders::path();
+    let pts = points(&path.line);
+    function(&calls).timed_on(
+        "s_stitch, 1024 points".into(),
+        move |_| vec![Timed::new(&calls, &path, pts.clone())],
+        |t| satin::s_stitch(&t.original),
+        Timed::ours,
+    )
+}
+
+/// `pairs`.
+fn matched() -> Function {
+    let calls = Calls {
+        name: "pairs",
+        small: boundaries::matched,
+        large: boundaries::large_matched,
+        any: rails::matched,
+        need: owed::pairs_need,
+        owed: owed::pairs,
+        slices: 2,
+        ours: |m, lent, count| {
+            let [work, out] = lent else {
+                unreachable!("two slices")
+            };
+            ours::pairs(m, work, out, count)
+        },
+    };
+    let mut function = function(&calls);
+    for (name, given) in borders::matched() {
+        function = function.timed_on(
+            format!("pairs, {name}"),
+            move |_| vec![Timed::new(&calls, &given, given.rails.original())],
+            |t| satin::pairs(&t.original, t.given.step),
+            Timed::ours,
+        );
+    }
+    function
+}
+
+type Ours<I> = fn(&I, &mut [&mut [f64]], &mut u64) -> u64;
 
 /// One of the calls: its inputs, what it needs and owes, and ours.
 struct Calls<I> {
@@ -63,8 +103,16 @@ struct Calls<I> {
     owed: fn(&I, &[usize]) -> Left,
     /// How many slices it is lent: a working slice if it has one, the output.
     slices: usize,
-    ours: fn(&I, &[usize]) -> Left,
+    ours: Ours<I>,
 }
+
+impl<I> Clone for Calls<I> {
+    fn clone(&self) -> Self {
+        *self
+    }
+}
+
+impl<I> Copy for Calls<I> {}
 
 /// A call, and how many words it is lent in each slice.
 struct Call<I> {
@@ -131,15 +179,15 @@ impl Operands for Column {
     }
 }
 
-fn function<I: Operands + Clone + 'static>(calls: Calls<I>) -> Function {
+fn function<I: Operands + Clone + 'static>(calls: &Calls<I>) -> Function {
+    let calls = *calls;
     let (small, large) = ((calls.small)(), (calls.large)());
-    let (any, need, slices) = (calls.any, calls.need, calls.slices);
-    let (owed, ours) = (calls.owed, calls.ours);
     let make = move |rng: &mut Rng, call: u64| {
-        let (given, way) = choose(rng, call as usize, &small, &large, slices, any);
+        let slices = calls.slices;
+        let (given, way) = choose(rng, call as usize, &small, &large, slices, calls.any);
         // A call that is refused anyway is lent some words to leave alone.
         let refused = || (5..5 + slices).collect();
-        let mut lent = lend(way, &need(&given).unwrap_or_else(refused));
+        let mut lent = lend(way, &(calls.need)(&given).unwrap_or_else(refused));
         if way == 1 {
             lent.iter_mut().for_each(|n| *n += rng.index(40));
         }
@@ -148,8 +196,8 @@ fn function<I: Operands + Clone + 'static>(calls: Calls<I>) -> Function {
     Function::new(
         calls.name,
         make,
-        move |c: &Call<I>| owed(&c.given, &c.lent),
-        move |c: &Call<I>| ours(&c.given, &c.lent),
+        move |c: &Call<I>| (calls.owed)(&c.given, &c.lent),
+        move |c: &Call<I>| left(&c.given, &c.lent, calls.ours),
         no_tie,
     )
     .usually(20_000)
@@ -179,7 +227,7 @@ fn choose<I: Clone>(
 }
 
 /// What a call of ours leaves in slices of so many words.
-fn left(words: &[usize], call: impl Fn(&mut [&mut [f64]], &mut u64) -> u64) -> Left {
+fn left<I>(given: &I, words: &[usize], ours: Ours<I>) -> Left {
     let floats = |&n: &usize| fresh(n).into_iter().map(f64::from_bits).collect();
     let mut slices: Vec<Vec<f64>> = words.iter().map(floats).collect();
     let mut lent: Vec<&mut [f64]> = slices
@@ -188,11 +236,40 @@ fn left(words: &[usize], call: impl Fn(&mut [&mut [f64]], &mut u64) -> u64) -> L
         .map(|(slice, &n)| &mut slice[MARGIN..MARGIN + n])
         .collect();
     let mut count = MARK;
-    let answer = call(&mut lent, &mut count);
+    let answer = ours(given, &mut lent, &mut count);
     let bits = |slice: Vec<f64>| slice.into_iter().map(f64::to_bits).collect();
     Left {
         answer,
         counts: vec![count],
         slices: slices.into_iter().map(bits).collect(),
+    }
+}
+
+/// A call in both forms, and its slices, lent again and again as a caller
+/// would, each as long as the need: the Rust makes new lists for each call.
+struct Timed<I, R> {
+    given: I,
+    original: R,
+    call: Ours<I>,
+    slices: RefCell<Vec<Vec<f64>>>,
+}
+
+impl<I: Clone, R> Timed<I, R> {
+    fn new(calls: &Calls<I>, given: &I, original: R) -> Timed<I, R> {
+        let need = (calls.need)(given).expect("a call to be timed is refused");
+        Timed {
+            given: given.clone(),
+            original,
+            call: calls.ours,
+            slices: RefCell::new(need.iter().map(|&n| vec![0.0; n]).collect()),
+        }
+    }
+
+    fn ours(&self) -> u64 {
+        let mut slices = self.slices.borrow_mut();
+        let mut lent: Vec<&mut [f64]> = slices.iter_mut().map(|s| &mut s[..]).collect();
+        let mut count = 0;
+        assert_eq!((self.call)(&self.given, &mut lent, &mut count), DONE);
+        count
     }
 }

@@ -115,6 +115,22 @@ fn synced() -> Vec<Rails> {
     lists.into_iter().map(with).collect()
 }
 
+/// A window that ends under 1e-9 past a whole number of steps of 1.0, and then
+/// one about as short as is told from none: its only place lies before it.
+fn hair_windows() -> Vec<Rails> {
+    let mut list = Vec::new();
+    for past in [5e-10, 1e-9 - 2e-13, 1e-9, 1e-9 + 2e-13] {
+        for hair in [9e-13, beside(1e-12, 1), 1.1e-12, 6e-10, 1e-9, 1.5e-9] {
+            let (one, two) = (5.0 + past, 5.0 + past + hair);
+            list.push(Rails {
+                sync: vec![one, one, two, two],
+                ..Rails::bar(10.0, 10.0, 4.0)
+            });
+        }
+    }
+    list
+}
+
 /// Rails whose pieces, or the whole of them, have no length; a loop; a rail a
 /// thousand times the other.
 fn odd_rails() -> Vec<Rails> {
@@ -192,6 +208,8 @@ pub fn matched() -> Vec<Matched> {
         .chain(synced())
         .chain(odd_rails());
     list.extend(plain.map(|rails| Matched { rails, step: 2.5 }));
+    let hairs = hair_windows().into_iter();
+    list.extend(hairs.map(|rails| Matched { rails, step: 1.0 }));
     list.extend(two_faults().into_iter().map(|(rails, setting)| Matched {
         rails,
         step: if setting { 0.25 } else { 5.0 },
@@ -317,6 +335,10 @@ pub fn columns() -> Vec<Column> {
         .chain(synced())
         .chain(odd_rails());
     list.extend(plain.map(Column::new));
+    list.extend(hair_windows().into_iter().map(|rails| Column {
+        spacing: 1.0,
+        ..Column::new(rails)
+    }));
     list.extend(two_faults().into_iter().map(|(rails, setting)| Column {
         run_len: if setting { 0.5 } else { 5.0 },
         ..Column::new(rails)

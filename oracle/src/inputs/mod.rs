@@ -1,6 +1,7 @@
 //! What the calls are made of.
 
 pub mod badges;
+pub mod borders;
 pub mod boundaries;
 pub mod column_boundaries;
 pub mod crests;

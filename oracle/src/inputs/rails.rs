@@ -393,9 +393,14 @@ fn moved(rng: &mut Rng, to: (f64, f64), from: (f64, f64), ends: (f64, f64)) -> (
         6 => beside(end - 1e-9, rng.range(-1, 1)),
         _ => from - rng.range(0, 30) as f64 / 10.0,
     };
-    match rng.below(5) {
+    match rng.below(6) {
         0 | 1 => (odd(rng, from.0, ends.0), to.1),
         2 | 3 => (to.0, odd(rng, from.1, ends.1)),
+        4 => {
+            // A window of almost no length.
+            let hair = rng.pick(&[1e-13, 1e-12, 5e-10, 1e-9, 2e-9]);
+            (from.0 + hair, from.1 + hair)
+        }
         _ => (odd(rng, from.0, ends.0), odd(rng, from.1, ends.1)),
     }
 }

@@ -1,7 +1,7 @@
 use mathlib.Core.Path.{refl}
 use borrow.Author.Needs.{needs}
-use Rattle.exports.proofs.column.beahcerot_s_stitch.Statement.{statement}
-use Rattle.exports.proofs.column.beahcerot_s_stitch.Tie as tie
+use Rattle.exports.proofs.border.beahcerot_s_stitch.Statement.{statement}
+use Rattle.exports.proofs.border.beahcerot_s_stitch.Tie as tie
 
 returns : tie.Need-returns
 returns c = rw (c .before .before .s-stitch .ensures .0) (refl, refl, c .before .before .s-stitch .ensures .1)

@@ -1,7 +1,7 @@
 use mathlib.Core.Path.{refl}
 use borrow.Author.Needs.{needs}
-use Rattle.exports.proofs.column.beahcerot_split_long.Statement.{statement}
-use Rattle.exports.proofs.column.beahcerot_split_long.Tie as tie
+use Rattle.exports.proofs.border.beahcerot_split_long.Statement.{statement}
+use Rattle.exports.proofs.border.beahcerot_split_long.Tie as tie
 
 returns : tie.Need-returns
 returns c = rw (c .before .before .split-long .ensures .0) (refl, refl, c .before .before .split-long .ensures .1)

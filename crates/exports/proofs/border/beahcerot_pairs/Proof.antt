@@ -1,7 +1,7 @@
 use mathlib.Core.Path.{refl}
 use borrow.Author.Needs.{needs}
-use Rattle.exports.proofs.column.beahcerot_pairs.Statement.{statement}
-use Rattle.exports.proofs.column.beahcerot_pairs.Tie as tie
+use Rattle.exports.proofs.border.beahcerot_pairs.Statement.{statement}
+use Rattle.exports.proofs.border.beahcerot_pairs.Tie as tie
 
 returns : tie.Need-returns
 returns c = let e = c .before .before .before .before .pairs .ensures in rw (e .0) (refl, refl, e .1, e .2)
