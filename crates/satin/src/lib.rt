@@ -5,6 +5,7 @@ ghost use Rattle.satinrules.specs.Calls.{splitSewn, splitOutput, sStitchSewn, s
 
 pub mod matched;
 pub mod rails;
+pub mod sized;
 pub mod slices;
 pub mod topping;
 pub mod underlay;
