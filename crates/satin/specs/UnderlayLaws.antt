@@ -150,8 +150,8 @@ underlay-count {a} {b} {sync} {n = n} {m = m} g f h =
     let end = afterCentre g in
     let c : bit g 1 ≡ true → length (centrePass r g false) ≡ n = λ t. ap length (centre-is a b sync g) ∙ fit-length (f (or-left (bit g 1) (bit g 2) t)) Middle false in
     let k : bit g 2 ≡ true → length (contourPass r g end) ≡ 2 * n = λ t.
-        let w = f (or-right (bit g 1) (bit g 2) t) in
-        ap length (contour-is a b sync g end) ∙ length-append (turnedIf end (threadOf SideA (pairs r (g .«run_len»)))) (turnedIf (not end) (threadOf SideB (pairs r (g .«run_len»)))) ∙ omega (arith, fit-length w SideA end, fit-length w SideB (not end)) in
+    let w = f (or-right (bit g 1) (bit g 2) t) in
+    ap length (contour-is a b sync g end) ∙ length-append (turnedIf end (threadOf SideA (pairs r (g .«run_len»)))) (turnedIf (not end) (threadOf SideB (pairs r (g .«run_len»)))) ∙ omega (arith, fit-length w SideA end, fit-length w SideB (not end)) in
     let z : bit g 4 ≡ true → length (zigzagPass r end) ≡ m = λ t. ap length (zigzag-is a b sync g end) ∙ fit-length (h t) Alternate end in
     three-length (onlyIf (bit g 1) (centrePass r g false)) (onlyIf (bit g 2) (contourPass r g end)) (onlyIf (bit g 4) (zigzagPass r end))
     ∙ omega (arith, only-length (bit g 1) (centrePass r g false) n c, only-length (bit g 2) (contourPass r g end) (2 * n) k, only-length (bit g 4) (zigzagPass r end) m z)

@@ -5,7 +5,6 @@ ghost use Rattle.satinrules.specs.Calls.{splitSewn, splitOutput, sStitchSewn, s
 
 pub mod matched;
 pub mod rails;
-pub mod sized;
 pub mod slices;
 pub mod topping;
 pub mod underlay;

@@ -25,11 +25,11 @@ use Rattle.pairing.specs.Store.{Sound, baseOf}
 use Rattle.pairing.specs.declared.places.Pass.{Pass}
 use Rattle.pairing.specs.Walk.{passOf, walkPlaces}
 use Rattle.pairing.specs.WalkLaws.{places-bound}
-use Rattle.satin.specs.declared.sized.Passes.{Passes}
+use Rattle.column.specs.declared.sized.Passes.{Passes}
 use Rattle.satin.specs.PassedLaws.{need-room}
 use Rattle.satin.specs.Underlay.{Fit}
 use Rattle.satin.specs.UnderlayLaws.{fit-count}
-use Rattle.satin.specs.Sized.{runs, sizedAt, placesIf, passesOf, mostIn}
+use Rattle.column.specs.Sized.{runs, sizedAt, placesIf, passesOf, mostIn}
 
 -- ---- the most of two
 

@@ -7,11 +7,11 @@ use Rattle.numbers.specs.Num.{literal}
 use Rattle.geom.specs.Outline.{points}
 use Rattle.satinrules.specs.Settings.{zigzagUnderlaySpacing}
 use Rattle.satinrules.specs.Column.{onlyIf, bit, spacingOf}
-use Rattle.satin.specs.Sized.{runs, sizedAt}
-use Rattle.satin.specs.SizedLaws.{sized-three}
+use Rattle.column.specs.Sized.{runs, sizedAt}
+use Rattle.column.specs.SizedLaws.{sized-three}
 use borrow.Author.Needs.{needs}
-use Rattle.satin.proofs.sized.column_sized.Statement.{statement}
-use Rattle.satin.proofs.sized.column_sized.Tie as tie
+use Rattle.column.proofs.sized.column_sized.Statement.{statement}
+use Rattle.column.proofs.sized.column_sized.Tie as tie
 
 returns : tie.Need-returns
 returns c =

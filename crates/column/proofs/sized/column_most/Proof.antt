@@ -1,7 +1,7 @@
 use mathlib.Core.Path.{_∙_}
 use borrow.Author.Needs.{needs}
-use Rattle.satin.proofs.sized.column_most.Statement.{statement}
-use Rattle.satin.proofs.sized.column_most.Tie as tie
+use Rattle.column.proofs.sized.column_most.Statement.{statement}
+use Rattle.column.proofs.sized.column_most.Tie as tie
 
 returns : tie.Need-returns
 returns c = c .larger2 .ensures ∙ rw (c .before .larger .ensures)

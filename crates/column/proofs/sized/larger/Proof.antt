@@ -1,7 +1,7 @@
 use borrow.Author.Tests.{le-leb, lt-leb}
 use borrow.Author.Needs.{needs}
-use Rattle.satin.proofs.sized.larger.Statement.{statement}
-use Rattle.satin.proofs.sized.larger.Tie as tie
+use Rattle.column.proofs.sized.larger.Statement.{statement}
+use Rattle.column.proofs.sized.larger.Tie as tie
 
 returns : tie.Need-returns
 returns c = rw (le-leb _ _ (c .if1 .taken))

@@ -6,13 +6,13 @@ ghost use Prim.Native.Nat.{_≤_};
 ghost use Rattle.geom.specs.Outline.{points};
 ghost use Rattle.satinrules.specs.Column.{onlyIf};
 ghost use Rattle.satinrules.specs.Calls.{passSteps, most};
-ghost use Rattle.satin.specs.Sized.{runs, sizedAt, placesIf, passesOf, mostIn};
-use crate::matched::MOST_PAIRS;
+ghost use Rattle.column.specs.Sized.{runs, sizedAt, placesIf, passesOf, mostIn};
 use geom::P;
 use pairing::places::Pass;
 use pairing::places::count_places;
 use pairing::places::pass_of;
 use passes::top::spaced;
+use satin::matched::MOST_PAIRS;
 use satinrules::Satin;
 
 // The passes of a column, and how many places each has; none where it isn't sewn.

@@ -1,10 +1,10 @@
 use mathlib.Core.Path.{_≡_, sym, _∙_}
 use Rattle.geom.specs.Outline.{points}
-use Rattle.satin.specs.Sized.{sizedAt}
-use Rattle.satin.specs.SizedLaws.{sized-one}
+use Rattle.column.specs.Sized.{sizedAt}
+use Rattle.column.specs.SizedLaws.{sized-one}
 use borrow.Author.Needs.{needs}
-use Rattle.satin.proofs.sized.sized_if.Statement.{statement}
-use Rattle.satin.proofs.sized.sized_if.Tie as tie
+use Rattle.column.proofs.sized.sized_if.Statement.{statement}
+use Rattle.column.proofs.sized.sized_if.Tie as tie
 
 returns : tie.Need-returns
 returns c =

@@ -5,11 +5,11 @@ use Rattle.numbers.specs.Num.{literal}
 use Rattle.geom.specs.Outline.{points}
 use Rattle.satinrules.specs.Settings.{zigzagUnderlaySpacing}
 use Rattle.pairing.specs.Walk.{passOf}
-use Rattle.satin.specs.Sized.{passesOf}
-use Rattle.satin.specs.SizedLaws.{run-sized, zigzag-sized, top-sized}
+use Rattle.column.specs.Sized.{passesOf}
+use Rattle.column.specs.SizedLaws.{run-sized, zigzag-sized, top-sized}
 use borrow.Author.Needs.{needs}
-use Rattle.satin.proofs.sized.passes_of.Statement.{statement}
-use Rattle.satin.proofs.sized.passes_of.Tie as tie
+use Rattle.column.proofs.sized.passes_of.Statement.{statement}
+use Rattle.column.proofs.sized.passes_of.Tie as tie
 
 places-if-requires : tie.Need-places-if-requires
 places-if-requires c κs =

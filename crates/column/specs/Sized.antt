@@ -15,7 +15,7 @@ use Rattle.satinrules.specs.Column.{bit, spacingOf}
 use Rattle.satinrules.specs.Calls.{most}
 use Rattle.pairing.specs.declared.places.Pass.{Pass}
 use Rattle.pairing.specs.Walk.{passOf, walkPlaces}
-use Rattle.satin.specs.declared.sized.Passes.{Passes}
+use Rattle.column.specs.declared.sized.Passes.{Passes}
 
 -- whether the pass by run_len is sewn: for the centre, for the contour, or for both
 abbrev pub runs : Satin → Bool

@@ -1,7 +1,7 @@
 use native.Mathlib.Omega.{arith}
 use borrow.Author.Needs.{needs}
-use Rattle.satin.proofs.sized.places_if.Statement.{statement}
-use Rattle.satin.proofs.sized.places_if.Tie as tie
+use Rattle.column.proofs.sized.places_if.Statement.{statement}
+use Rattle.column.proofs.sized.places_if.Tie as tie
 
 count-places-requires : tie.Need-count-places-requires
 count-places-requires c κs = omega (arith, c .before .before .pre (c .if1 .taken))
