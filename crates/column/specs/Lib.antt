@@ -1,0 +1,7 @@
+-- What the contracts of `column` cite (Sized, Turned, Topping), and what is proved of it.
+pub mod Sized
+pub mod SizedLaws
+pub mod Turned
+pub mod TurnedLaws
+pub mod Topping
+pub mod ToppingLaws
