@@ -34,10 +34,10 @@ use Rattle.column.specs.Sized.{runs, sizedAt, placesIf, passesOf, mostIn
 -- ---- the most of two
 
 module _ (m n : ℕ) where
-  most-left : m ≤ most m n
+  pub most-left : m ≤ most m n
   most-left = elim (either (leb m n)) [ inl e ↦ rw e (leb-true m n e) | inr e ↦ rw e (omega arith) ]
 
-  most-right : n ≤ most m n
+  pub most-right : n ≤ most m n
   most-right = elim (either (leb m n)) [ inl e ↦ rw e (omega arith) | inr e ↦ rw e (omega (arith, leb-false m n e)) ]
 
   most-bound : (k : ℕ) → m ≤ k → n ≤ k → most m n ≤ k
@@ -179,10 +179,7 @@ module _ (r : Rails) (ss : List Float) (ps : List P) (work room : ℕ) (some : f
     answer-work h = rw (some, ok, lt-leb (need r (mostOf r ss)) work h)
 
     module _ (works : need r (mostOf r ss) ≤ work) where
-      pub answer-room : room < 2 * length ps → passed r ss ps work room ≡ ROOM
-      unfolding passed fitted
-      answer-room h = rw (some, ok, le-leb (need r (mostOf r ss)) work works, lt-leb (length (flat ps)) room (omega (arith, flat-length ps)))
-
-      pub answer-done : 2 * length ps ≤ room → passed r ss ps work room ≡ DONE
-      unfolding passed fitted
-      answer-done h = rw (some, ok, le-leb (need r (mostOf r ss)) work works, le-leb (length (flat ps)) room (omega (arith, flat-length ps)))
+      -- all that is left to ask is the room
+      pub answer-fitted : passed r ss ps work room ≡ fitted ps room
+      unfolding passed
+      answer-fitted = rw (some, ok, le-leb (need r (mostOf r ss)) work works)
