@@ -15,7 +15,7 @@ use std::cell::RefCell;
 use zigzag::satin;
 
 pub fn functions() -> Vec<Function> {
-    vec![split_long(), s_stitch(), matched()]
+    vec![split_long(), s_stitch(), matched(), column()]
 }
 
 fn split_long() -> Function {
@@ -83,6 +83,37 @@ fn matched() -> Function {
             format!("pairs, {name}"),
             move |_| vec![Timed::new(&calls, &given, given.rails.original())],
             |t| satin::pairs(&t.original, t.given.step),
+            Timed::ours,
+        );
+    }
+    function
+}
+
+fn column() -> Function {
+    let calls = Calls {
+        name: "column",
+        small: boundaries::columns,
+        large: boundaries::large_columns,
+        any: rails::column,
+        need: owed::column_need,
+        owed: owed::column,
+        slices: 2,
+        ours: |c, lent, count| {
+            let [work, out] = lent else {
+                unreachable!("two slices")
+            };
+            ours::column(c, work, out, count)
+        },
+    };
+    let mut function = function(&calls);
+    for (name, given) in borders::columns() {
+        function = function.timed_on(
+            format!("column {name}"),
+            move |_| {
+                let original = (given.rails.original(), given.params());
+                vec![Timed::new(&calls, &given, original)]
+            },
+            |t| satin::column(&t.original.0, &t.original.1),
             Timed::ours,
         );
     }

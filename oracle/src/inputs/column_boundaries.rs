@@ -134,7 +134,7 @@ fn hair_windows() -> Vec<Rails> {
 /// Rails whose pieces, or the whole of them, have no length; a loop; a rail a
 /// thousand times the other.
 fn odd_rails() -> Vec<Rails> {
-    let point = vec![3.0, 4.0];
+    let point = [3.0, 4.0];
     let same = point.repeat(3);
     let mut list = vec![
         Rails {

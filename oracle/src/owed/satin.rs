@@ -12,7 +12,7 @@ use zigzag::geom::P;
 use zigzag::satin::{self, SatinParams, SatinStyle};
 
 /// More points than this are never made.
-const MOST: u64 = 50_000;
+const MOST: u64 = 200_000;
 
 fn flat(points: &[P]) -> Vec<u64> {
     let words = points.iter().flat_map(|p| [p.x.to_bits(), p.y.to_bits()]);
