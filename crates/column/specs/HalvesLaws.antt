@@ -1,7 +1,7 @@
 -- What is proved of both halves together: their count, where they stand, and which answer it is. Assumes nothing.
 use Prim.Native.Nat.{ℕ, _+_, _-_, _*_, _≤_, _<_}
 use native.Mathlib.Omega.{arith}
-use mathlib.Core.Path.{_≡_, refl, sym, ap, _∙_}
+use mathlib.Core.Path.{_≡_, sym, ap, _∙_}
 use mathlib.Core.Bool.{true, false}
 use mathlib.Core.Logic.{inl, inr}
 use mathlib.Core.List.{List, [], _++_, append-assoc}
@@ -9,7 +9,6 @@ use lib.Dec.{leb}
 use lib.ListN.{length, take, drop, replicate, length-append}
 use lib.Seq.{length-take-le, drop-at}
 use lib.Ieee.{Float}
-use borrow.Author.Tests.{le-leb, lt-leb}
 use Rattle.refusal.specs.Refusal.{SIZE, WORK}
 use Rattle.numbers.specs.Num.{zero64}
 use Rattle.seqs.specs.Slices.{put, capped}
@@ -23,8 +22,8 @@ use Rattle.geom.specs.SewingLaws.{flat-length, flat-append, points-flat}
 use Rattle.satinrules.specs.declared.Satin.{Satin}
 use Rattle.satinrules.specs.Pairs.{endsOf, few, pairs}
 use Rattle.satinrules.specs.Column.{spacingOf, stitches, underlay, top, column}
-use Rattle.satinrules.specs.Calls.{railsOf, passSteps, sized, most, mostOf, need, worked, passed}
-use Rattle.pairing.specs.Store.{Sound, baseOf}
+use Rattle.satinrules.specs.Calls.{railsOf, passSteps, sized, most, mostOf, need, worked}
+use Rattle.pairing.specs.Store.{Sound}
 use Rattle.satin.specs.Underlay.{underlayCount}
 use Rattle.satin.specs.UnderlayLaws.{underlay-count, run-size}
 use Rattle.column.specs.declared.sized.Passes.{Passes}
@@ -92,24 +91,20 @@ module _ {a b sync : List Float} {g : Satin} {ends : P} {p : Passes} {work : ℕ
     behind-room = omega (arith, fits, both-length)
 
     module _ (d₁ : List Float) (f : d₁ ≡ put d (2 * u) (flat (topOf g (points s)))) where
-      pub behind-size : length d₁ ≡ length d
+      behind-size : length d₁ ≡ length d
       behind-size = run-size d d₁ (topOf g (points s)) (2 * u) behind-room f
 
       pub before-room : 2 * length (underlay (railsOf a b sync) g) ≤ length d₁
       before-room = omega (arith, behind-room, behind-size, under)
 
-      module _ (y : List Float) (h : y ≡ put d₁ 0 (flat (underlay (railsOf a b sync) g))) where
-        pub halves-put : y ≡ put d 0 (flat (column (railsOf a b sync) g))
-        unfolding column
-        halves-put =
-            let l = flat (underlay (railsOf a b sync) g) in
-            let m = flat (top (railsOf a b sync) g) in
-            let k : d₁ ≡ put d (2 * u) m = f ∙ ap (λ (t : List P). put d (2 * u) (flat t)) path-top in
-            put-before d d₁ y l m (2 * u) (omega (arith, under, flat-length (underlay (railsOf a b sync) g))) (omega (arith, behind-room, flat-length (top (railsOf a b sync) g), ap length path-top)) k h
-            ∙ ap (put d 0) (sym (flat-append (underlay (railsOf a b sync) g) (top (railsOf a b sync) g)))
-
-        pub halves-size : length y ≡ length d
-        halves-size = run-size d y (column (railsOf a b sync) g) 0 (omega (arith, fits)) halves-put
+      pub halves-put : (y : List Float) → y ≡ put d₁ 0 (flat (underlay (railsOf a b sync) g)) → y ≡ put d 0 (flat (column (railsOf a b sync) g))
+      unfolding column
+      halves-put y h =
+          let l = flat (underlay (railsOf a b sync) g) in
+          let m = flat (top (railsOf a b sync) g) in
+          let k : d₁ ≡ put d (2 * u) m = f ∙ ap (λ (t : List P). put d (2 * u) (flat t)) path-top in
+          put-before d d₁ y l m (2 * u) (omega (arith, under, flat-length (underlay (railsOf a b sync) g))) (omega (arith, behind-room, flat-length (top (railsOf a b sync) g), ap length path-top)) k h
+          ∙ ap (put d 0) (sym (flat-append (underlay (railsOf a b sync) g) (top (railsOf a b sync) g)))
 
 -- ---- which answer it is
 

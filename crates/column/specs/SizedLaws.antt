@@ -2,19 +2,18 @@
 use Prim.Native.Nat.{ℕ, _+_, _*_, _≤_, _<_}
 use native.Mathlib.Omega.{arith}
 use mathlib.Core.Path.{_≡_, refl, sym, ap, _∙_}
-use mathlib.Core.Bool.{Bool, true, false, _&&_, _||_, cond}
+use mathlib.Core.Bool.{Bool, true, false, _&&_, cond}
 use mathlib.Core.Logic.{inl, inr}
 use mathlib.Core.List.{List, [], _∷_, _++_}
 use lib.Dec.{leb}
 use lib.ListN.{length}
 use lib.Ieee.{Float}
 use borrow.Author.Tests.{le-leb, lt-leb, leb-true, leb-false}
-use Rattle.refusal.specs.Refusal.{DONE, SIZE, WORK, ROOM, unless, _then_}
+use Rattle.refusal.specs.Refusal.{SIZE, WORK, _then_}
 use Rattle.seqs.specs.Tests.{and-both, either, clash}
 use Rattle.geom.specs.declared.point.P.{P}
 use Rattle.geom.specs.Outline.{points}
-use Rattle.geom.specs.Sewing.{flat, fitted}
-use Rattle.geom.specs.SewingLaws.{flat-length}
+use Rattle.geom.specs.Sewing.{fitted}
 use Rattle.geom.specs.Limits.{mostPairs}
 use Rattle.satinrules.specs.declared.Satin.{Satin}
 use Rattle.satinrules.specs.Settings.{zigzagUnderlaySpacing}

@@ -1,10 +1,10 @@
 -- What is proved of the top: its count, and what is turned round where it was put. Assumes nothing.
-use Prim.Native.Nat.{ℕ, _+_, _-_, _*_, _/_, _%_, _≤_}
+use Prim.Native.Nat.{ℕ, _+_, _-_, _%_, _≤_}
 use native.Mathlib.Omega.{arith}
 use mathlib.Core.Path.{_≡_, refl, sym, ap, _∙_}
 use mathlib.Core.Bool.{true, false}
 use mathlib.Core.List.{List, _++_, reverse, append-assoc}
-use lib.ListN.{length, take, drop, length-reverse, length-append}
+use lib.ListN.{length, take, drop, length-reverse}
 use lib.Seq.{length-take-le, take-at, drop-at, drop-drop}
 use lib.Ieee.{Float}
 use Rattle.seqs.specs.Slices.{put}
@@ -16,7 +16,7 @@ use Rattle.geom.specs.Sewing.{flat}
 use Rattle.geom.specs.SewingLaws.{flat-length, points-flat}
 use Rattle.satinrules.specs.declared.Satin.{Satin}
 use Rattle.satinrules.specs.Pairs.{Rails, pairs}
-use Rattle.satinrules.specs.Column.{turnedIf, afterZigzag, spacingOf, stitches, styled, top}
+use Rattle.satinrules.specs.Column.{afterZigzag, spacingOf, stitches, styled, top}
 use Rattle.pairing.specs.StoreLaws.{put-back}
 use Rattle.satin.specs.UnderlayLaws.{turned-length}
 use Rattle.column.specs.Topping.{topOf}

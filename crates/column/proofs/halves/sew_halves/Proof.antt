@@ -1,5 +1,5 @@
 -- `sew_halves` meets its contract: what is counted up to the room is what the room is compared with. Assumes nothing.
-use mathlib.Core.Path.{_≡_, refl, sym, ap, _∙_}
+use mathlib.Core.Path.{refl, _∙_}
 use native.Mathlib.Omega.{arith}
 use lib.ListN.{length}
 use Rattle.geom.specs.SewingLaws.{not-fitted, counted, fits, is-fitted, flat-length}

@@ -1,6 +1,5 @@
 -- `sewn_column` meets its contract: which of SIZE, WORK, ROOM and DONE it is. Assumes nothing.
-use mathlib.Core.Path.{_≡_, refl, sym, ap, _∙_}
-use native.Mathlib.Omega.{arith}
+use mathlib.Core.Path.{refl, sym, ap, _∙_}
 use lib.ListN.{length}
 use borrow.Author.Tests.{not-true, not-false}
 use Rattle.geom.specs.Outline.{points}

@@ -1,5 +1,4 @@
 use mathlib.Core.Path.{_≡_, sym, _∙_}
-use mathlib.Core.Bool.{true}
 use mathlib.Core.List.{[], _∷_}
 use lib.Ieee.{ofBits, round}
 use borrow.Author.Tests.{not-true, not-false}

@@ -1,10 +1,8 @@
-use mathlib.Core.Path.{_≡_, sym, _∙_}
-use native.Mathlib.Omega.{arith}
+use mathlib.Core.Path.{sym, _∙_}
 use lib.Ieee.{ofBits, round}
 use Rattle.numbers.specs.Num.{literal}
 use Rattle.geom.specs.Outline.{points}
 use Rattle.satinrules.specs.Settings.{zigzagUnderlaySpacing}
-use Rattle.pairing.specs.Walk.{passOf}
 use Rattle.column.specs.Sized.{passesOf}
 use Rattle.column.specs.SizedLaws.{run-sized, zigzag-sized, top-sized}
 use borrow.Author.Needs.{needs}

@@ -1,4 +1,4 @@
-use mathlib.Core.Path.{_≡_, sym, _∙_}
+use mathlib.Core.Path.{sym}
 use Rattle.geom.specs.Outline.{points}
 use Rattle.column.specs.Sized.{sizedAt}
 use Rattle.column.specs.SizedLaws.{sized-one}

@@ -1,4 +1,3 @@
-use mathlib.Core.Path.{_≡_}
 use Rattle.geom.specs.Outline.{points}
 use Rattle.column.specs.ToppingLaws.{top-length}
 use borrow.Author.Needs.{needs}

@@ -1,10 +1,9 @@
 -- `put_top` meets its contract: what is turned round is what was just put. Assumes nothing.
-use mathlib.Core.Path.{_≡_, refl, sym, ap, _∙_}
-use Prim.Native.Nat.{_+_, _-_, _*_}
+use mathlib.Core.Path.{sym, _∙_}
+use Prim.Native.Nat.{_-_}
 use native.Mathlib.Omega.{arith}
-use lib.ListN.{length, length-reverse}
+use lib.ListN.{length-reverse}
 use Rattle.geom.specs.Outline.{points}
-use Rattle.geom.specs.Sewing.{flat}
 use Rattle.geom.specs.SewingLaws.{flat-length}
 use Rattle.satinrules.specs.Column.{styled}
 use Rattle.column.specs.ToppingLaws.{top-length, top-on, top-off, lent-end, lent-even, turned-put}

@@ -1,14 +1,10 @@
 -- `swap_points` meets its contract. Assumes nothing.
-use mathlib.Core.Path.{_≡_, _∙_}
+use mathlib.Core.Path.{_∙_}
 use Prim.Native.Nat.{_*_}
 use native.Mathlib.Omega.{arith}
-use lib.ListN.{length}
 use mathlib.Core.List.{[], _∷_}
-use Rattle.geom.specs.OutlineLaws.{cornerAt}
-use Rattle.geom.specs.Sewing.{flat}
-use Rattle.geom.specs.SewingLaws.{flat-length}
 use Rattle.satin.specs.UnderlayLaws.{run-size}
-use Rattle.column.specs.TurnedLaws.{swap-put, swap-size}
+use Rattle.column.specs.TurnedLaws.{swap-put}
 use borrow.Author.Needs.{needs}
 use Rattle.column.proofs.turning.swap_points.Statement.{statement}
 use Rattle.column.proofs.turning.swap_points.Tie as tie

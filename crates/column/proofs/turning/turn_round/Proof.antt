@@ -1,12 +1,11 @@
 -- `turn_round` meets its contract: at each turn the ends of what is left are exchanged. Assumes nothing.
-use mathlib.Core.Path.{_≡_, refl, sym, ap, _∙_, subst}
-use Prim.Native.Nat.{_+_, _-_, _*_, _/_, _%_, _≤_}
+use mathlib.Core.Path.{_≡_, refl, _∙_}
+use Prim.Native.Nat.{_-_, _*_, _/_, _≤_}
 use native.Mathlib.Omega.{arith}
-use mathlib.Core.List.{List, reverse}
+use mathlib.Core.List.{reverse}
 use lib.ListN.{length}
 use Rattle.geom.specs.Outline.{points}
 use Rattle.geom.specs.OutlineLaws.{points-length}
-use Rattle.geom.specs.Sewing.{flat}
 use Rattle.column.specs.TurnedLaws.{Mid, mid-start, mid-turn, mid-end, turn-size}
 use borrow.Author.Needs.{needs}
 use Rattle.column.proofs.turning.turn_round.Statement.{statement}
