@@ -93,7 +93,7 @@ module _ (corners : List Float) (ends : List ℕ) (t : Plan) where
         pub piece-count : n ≡ pieces
         piece-count = laid-count e n (alone corners ends t) laid ∙ alone-count
 
-        pub few-found : n ≤ 4194304
+        pub few-found : n ≤ 2097152
         few-found = omega (arith, piece-count, pieces-bounded corners ends (t .g) (t .stagger) (p .accepted) (t .rule) (t .upward))
 
         pub holds : needFloats e n ≤ length d₁ → needWholes e n ≤ length a → length d₂ ≡ length d₁ → Holds corners ends t e n d₂ a₂

@@ -4,7 +4,8 @@
 use mathlib.Core.Path.{_≡_, sym, ap, _∙_}
 use mathlib.Core.Bool.{Bool, true, false, cond}
 use mathlib.Core.List.{List, [], map, reverse}
-use Prim.Native.Nat.{ℕ, _≤_, _<_}
+use Prim.Native.Nat.{ℕ, _/_, _≤_, _<_}
+use native.Mathlib.Omega.{arith}
 use native.Mathlib.Nat.{le-trans, mul-le-mul}
 use lib.IntN.{ℤ, pos}
 use lib.ListN.{length}
@@ -29,7 +30,7 @@ use Rattle.rules.specs.Sweep.{InOrder, swept, sweptBy, byStart}
 use Rattle.rules.specs.SweepLaws.{swept-alone, swept-by-alone}
 use Rattle.rules.specs.Alls.{map-reverse}
 use Rattle.rules.specs.Accepted.{Accepted, Checked, checked, laid-out}
-use Rattle.rules.specs.Counts.{edges-few, pieces-few}
+use Rattle.rules.specs.Counts.{edges-few, pieces-half}
 use Rattle.rules.specs.FillSections.{rows-down}
 use Rattle.rules.specs.Edges.{Good, edges-good}
 use Rattle.rules.specs.Pieces.{Small, crosses-within, pieces-small}
@@ -141,5 +142,7 @@ module _ (corners : List Float) (ends : List ℕ) (g : Settings) (stagger : ℕ)
   pub edges-bounded : length es ≤ 1024
   edges-bounded = edges-few corners ends g (laid-out corners ends g stagger accepted)
 
-  pub pieces-bounded : (rule : FillRule) (bottomUp : Bool) → length (rowList (rings corners ends) rule g bottomUp) ≤ 4194304
-  pieces-bounded rule bottomUp = le-trans (pieces-few (rings corners ends) rule g bottomUp) (mul-le-mul edges-bounded (known .rows))
+  pub pieces-bounded : (rule : FillRule) (bottomUp : Bool) → length (rowList (rings corners ends) rule g bottomUp) ≤ 2097152
+  pieces-bounded rule bottomUp =
+      let halved : length es / 2 ≤ 512 = omega (arith, edges-bounded) in
+      le-trans (pieces-half (rings corners ends) rule g bottomUp) (mul-le-mul halved (known .rows))

@@ -76,7 +76,7 @@ pub fn good_satin(g: Satin) -> bool
 }
 
 // The split that a number says: 0 of either sign is none.
-fn split_of(x: f64) -> Split
+pub fn split_of(x: f64) -> Split
     ensures { λ r. ⌜ r ≡ splitOf x ⌝ }
 {
     if x == 0.0 {

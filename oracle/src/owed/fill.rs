@@ -1,7 +1,7 @@
-//! What the fill's calls owe: document 01's checks in the table's order, then
-//! the original's answer at the front of the lent slices. The original is asked
-//! only where the checks 1 to 5 let the call through.
+//! What the fill's calls owe. The original is asked only where the checks 1 to 5
+//! let the call through.
 
+use super::{Left, fits, left};
 use crate::expect::{
     self, DONE, LAYOUT, LEN, NUMBER, ROOM, ROWS, SETTING, SHRINK, SIZE, SPACING, STAGGER, TURN,
     WORK,
@@ -10,53 +10,18 @@ use crate::inputs::fills::Fill;
 use zigzag::fill::{self, Piece};
 use zigzag::geom::Polyline;
 
-/// Stands in every lent word before a call, its place added, so that a word
-/// that was moved is told from one that was left alone.
-pub const MARK: u64 = 0x1234_5678_9abc_def0;
-
-/// So many words in front of each lent slice and behind it are looked at too.
-pub const MARGIN: usize = 4;
-
 /// More points than this are never made: a fill of the greatest size has more
 /// than memory holds.
 const MOST: u64 = 50_000;
+
+/// A fill's working slices: floats, whole numbers.
+const WORKING: usize = 2;
 
 /// What equal crossings go by: the original's sort, or the edge's place.
 #[derive(Clone, Copy)]
 pub enum Order {
     Original,
     ByPlace,
-}
-
-/// What a call leaves behind.
-#[derive(PartialEq)]
-pub struct Left {
-    pub answer: u64,
-    pub counts: Vec<u64>,
-    /// The lent slices in bits, each with its margin: floats, wholes, outputs.
-    pub slices: Vec<Vec<u64>>,
-}
-
-/// A lent slice of so many words as it is before the call, with its margin.
-pub fn fresh(words: usize) -> Vec<u64> {
-    (0..words + 2 * MARGIN).map(|i| MARK + i as u64).collect()
-}
-
-fn left(answer: u64, lent: &[usize], counts: Vec<u64>, outputs: &[Vec<u64>]) -> Left {
-    let mut slices: Vec<Vec<u64>> = lent.iter().map(|&n| fresh(n)).collect();
-    if !(LAYOUT..=SIZE).contains(&answer) {
-        for (slice, &words) in slices.iter_mut().zip(&lent[..2]) {
-            slice[MARGIN..MARGIN + words].fill(0);
-        }
-    }
-    for (slice, output) in slices[2..].iter_mut().zip(outputs) {
-        slice[MARGIN..MARGIN + output.len()].copy_from_slice(output);
-    }
-    Left {
-        answer,
-        counts,
-        slices,
-    }
 }
 
 /// The table's 1 to 5, which look at no lent slice.
@@ -134,13 +99,9 @@ fn work(f: &Fill, pieces: usize) -> [usize; 2] {
     [6 * edges + 4 * pieces, 4 * edges + 6 * pieces]
 }
 
-fn fits(need: &[usize], lent: &[usize]) -> bool {
-    need.iter().zip(lent).all(|(need, lent)| need <= lent)
-}
-
 /// What `tatami` owes where it is lent floats, wholes, floats for points, ends.
 pub fn tatami(f: &Fill, lent: &[usize], order: Order) -> Left {
-    let refused = |answer| left(answer, lent, vec![0; 2], &[]);
+    let refused = |answer| left(answer, lent, WORKING, vec![0; 2], &[]);
     let first = gate(f);
     if first != DONE {
         return refused(first);
@@ -162,13 +123,13 @@ pub fn tatami(f: &Fill, lent: &[usize], order: Order) -> Left {
         return refused(ROOM);
     }
     let counts = vec![ends.len() as u64, points.len() as u64 / 2];
-    left(DONE, lent, counts, &[points, ends])
+    left(DONE, lent, WORKING, counts, &[points, ends])
 }
 
 /// What `row_list` owes where it is lent floats, wholes, floats for y, xa and
 /// xb, row numbers, section numbers.
 pub fn row_list(f: &Fill, lent: &[usize], order: Order) -> Left {
-    let refused = |answer| left(answer, lent, vec![0], &[]);
+    let refused = |answer| left(answer, lent, WORKING, vec![0], &[]);
     let first = gate(f);
     if first != DONE {
         return refused(first);
@@ -187,7 +148,7 @@ pub fn row_list(f: &Fill, lent: &[usize], order: Order) -> Left {
         pieces.iter().map(|p| p.k as u64).collect(),
         pieces.iter().map(|p| p.section as u64).collect(),
     ];
-    left(DONE, lent, vec![n as u64], &outputs)
+    left(DONE, lent, WORKING, vec![n as u64], &outputs)
 }
 
 /// Whether the original leaves the answer open: under NonZero, a row with
