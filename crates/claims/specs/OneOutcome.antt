@@ -29,10 +29,12 @@ use Rattle.rules.specs.declared.Settings.{Settings}
 use Rattle.tatami.specs.declared.Filled.{Filled}
 use Rattle.tatami.specs.declared.Listed.{Listed}
 use Rattle.tatami.specs.Left.{Left, left, tatamiLeft, LeftList, leftList, rowListLeft}
+use Rattle.fillroom.specs.declared.Room.{Room}
+use Rattle.fillroom.specs.Room.{roomOf}
 use Rattle.satinrules.specs.declared.Satin.{Satin}
 use Rattle.satinrules.specs.declared.Made.{Made}
-use Rattle.satinrules.specs.declared.Made.the-variants as made
 use Rattle.satinrules.specs.Settings.{saidMade, madeAnswer}
+use Rattle.satinrules.specs.SettingsLaws.{said-one}
 use Rattle.satinrules.specs.Calls.{pairsSewn, pairsOutput, pairsWork, splitSewn, splitOutput, sStitchSewn, sStitchOutput, columnSewn, columnOutput, columnWork}
 use Rattle.patterns_rules.specs.declared.Lines.{Lines}
 use Rattle.patterns_rules.specs.Answers.{boundsAnswer, clipSaid, clipPoints, clipEnds, crossSaid, crossPoints, crossEnds}
@@ -72,12 +74,6 @@ place-one (place.Refused m) place.Before e = absurd (refused-done e)
 place-one (place.Refused m) place.Same e = absurd (refused-done e)
 place-one (place.Refused m) place.After e = absurd (refused-done e)
 place-one (place.Refused m) (place.Refused n) e = ap place.Refused (refused-one ℕ e)
-
-made-one : (r s : Made) → saidMade r ≡ saidMade s → r ≡ s
-made-one (made.Settings g) (made.Settings h) e = ap made.Settings (done-one e)
-made-one (made.Settings g) (made.Refused n) e = absurd (done-refused e)
-made-one (made.Refused m) (made.Settings h) e = absurd (refused-done e)
-made-one (made.Refused m) (made.Refused n) e = ap made.Refused (refused-one Satin e)
 
 -- ---- outcomes of one or more parts, each said by an equation
 
@@ -163,7 +159,7 @@ pub running-outcome : (line : List Float) (closed : Bool) (len : Float) (passes 
 running-outcome line closed len passes out = two
 
 pub made-outcome : (g : Satin) (r s : Made) → saidMade r ≡ madeAnswer g → saidMade s ≡ madeAnswer g → r ≡ s
-made-outcome g r s h k = made-one r s (one h k)
+made-outcome g r s h k = said-one r s (one h k)
 
 pub pairs-outcome : (a : List Float) (b : List Float) (sync : List Float) (step : Float) (work : List Float) (out : List Float) {r r′ : Sewn} {o o′ : List Float} {w w′ : List Float} → (r ≡ pairsSewn a b sync step (length work) (length out)) × (o ≡ pairsOutput a b sync step (length work) out) × (w ≡ pairsWork a b sync step work (length out)) → (r′ ≡ pairsSewn a b sync step (length work) (length out)) × (o′ ≡ pairsOutput a b sync step (length work) out) × (w′ ≡ pairsWork a b sync step work (length out)) → (r ≡ r′) × (o ≡ o′) × (w ≡ w′)
 pairs-outcome a b sync step work out = three
@@ -198,6 +194,9 @@ pub row-list-outcome : (corners : List Float) (ends : List ℕ) (rule : FillRule
 row-list-outcome corners ends rule g stagger upward ys rows sections floats wholes a b =
     let h = one a b in
     (ap (λ (l : LeftList). l .said) h, ap (λ (l : LeftList). l .ys) h, ap (λ (l : LeftList). l .rows) h, ap (λ (l : LeftList). l .sections) h, ap (λ (l : LeftList). l .floats) h, ap (λ (l : LeftList). l .wholes) h)
+
+pub fill-room-outcome : (corners : List Float) (ends : List ℕ) (g : Settings) (stagger : ℕ) {r r′ : Room} → r ≡ roomOf corners ends g stagger → r′ ≡ roomOf corners ends g stagger → r ≡ r′
+fill-room-outcome corners ends g stagger = one
 
 -- ---- the program's parts
 
