@@ -2,14 +2,14 @@
 use Prim.Native.Nat.{ℕ, _+_, _*_, _/_, _%_, _≤_, _<_}
 use native.Mathlib.Omega.{arith}
 use mathlib.Core.Path.{_≡_, refl, sym, ap, _∙_, subst}
-use mathlib.Core.Bool.{Bool, true, false, _&&_, _||_, or-true}
+use mathlib.Core.Bool.{Bool, true, false, _&&_, _||_, cond, or-true}
 use mathlib.Core.List.{List, _++_, map}
 use lib.Dec.{ltb, leb, eqb}
 use lib.ListN.{length, take, drop, length-map, length-drop}
 use lib.Seq.{length-take-le, take-at}
 use lib.Ieee.{Float}
 use borrow.Author.Tests.{lt-ltb, leb-true}
-use Rattle.seqs.specs.Lists.{each}
+use Rattle.seqs.specs.Lists.{each, Strict}
 use Rattle.seqs.specs.Records.{Added}
 use Rattle.seqs.specs.Each.{each-length}
 use Rattle.seqs.specs.Tests.{and-both}
@@ -27,8 +27,9 @@ use Rattle.edges.specs.Table.{edgeBlock, edgePlace, edgesIn, Outline}
 use Rattle.edges.specs.TableLaws.{built}
 use Rattle.edges.specs.Span.{Spanned}
 use Rattle.edges.specs.SpanLaws.{spanned}
-use Rattle.sweep.specs.Swept.{numbers, sweptAll, Lent, Laid}
-use Rattle.sweep.specs.Exact.{sweep-exact}
+use Rattle.sweep.specs.declared.key.Key.the-variants.{Top, Bottom}
+use Rattle.sweep.specs.Swept.{by, numbers, sweptAll, Lent, Laid}
+use Rattle.sweep.specs.Exact.{sweep-exact, sweep-strict}
 use Rattle.sweep.specs.LaidLaws.{laid-count, counts-length, wrote-there}
 use Rattle.sections.specs.Mark.{Laid as Held}
 use Rattle.finding.specs.declared.Plan.{Plan}
@@ -81,6 +82,9 @@ module _ (corners : List Float) (ends : List ℕ) (t : Plan) where
 
       pub lent : (a : List ℕ) → length d₁ ≡ length d → 6 * e ≤ length d → 4 * e ≤ length a → Lent d₁ a e (t .rows)
       lent a s h k = record { floats = omega arith; wholes = k; edges = omega (arith, edge-count, few-edges); rows = spans-rows }
+
+      pub lent-strict : 5 * e ≤ length d → Strict (by (cond (t .upward) Bottom Top) (edgesIn e d₁))
+      lent-strict h = rw (built es b h) (sweep-strict corners ends (t .g) (t .stagger) (p .accepted) (t .upward))
 
       pub swept-alone : 5 * e ≤ length d → sweptAll (t .upward) (t .rule) (t .g) (edgesIn e d₁) (numbers (t .rows) (t .upward) 0) ≡ alone corners ends t
       swept-alone h = rw (built es b h, p .rows) (sweep-exact corners ends (t .g) (t .stagger) (p .accepted) (t .rule) (t .upward))

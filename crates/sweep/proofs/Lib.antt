@@ -1,2 +1,3 @@
 pub mod Scans
+pub mod Merging
 pub mod Stripe

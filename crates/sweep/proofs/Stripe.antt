@@ -30,7 +30,8 @@ use Rattle.sweep.specs.declared.active.Live.{Live}
 use Rattle.sweep.specs.declared.row.Done.{Done}
 use Rattle.sweep.specs.declared.piece.Cut.{Cut}
 use Rattle.sweep.specs.Swept.{ordered, enters, stays, places, cutAt, cuts, spanBlock, piecePlace, numbers, swept, waiting, sweptAll, Retained, Admitted, Gathered, Rowed, Laid}
-use Rattle.sweep.specs.SweptLaws.{ordered-length, waiting-length, cuts-few, cuts-pieces, added-pieces, asPiece, swept-next, swept-none}
+use Rattle.sweep.specs.Merge.{Waited}
+use Rattle.sweep.specs.SweptLaws.{ordered-length, cuts-few, cuts-pieces, added-pieces, asPiece, swept-next, swept-none}
 
 -- ---- a loop that takes up while a test holds
 
@@ -196,14 +197,14 @@ pub few-pieces : {e r i : ℕ} → e ≤ 1024 → r ≤ 4096 → i ≤ e * r →
 few-pieces {e} {r} h k l = omega (arith, mul-le-mul-left e k)
 
 -- the rows over places that were put in order first
-pub waited-size : (upward : Bool) (es : List Edge) (e : ℕ) (a : List ℕ) {b : List ℕ} → 4 * e ≤ length a → length es ≡ e → b ≡ waiting upward es → length (b ++ drop e a) ≡ length a
-waited-size upward es e a {b} h k w = head-size a b e (omega arith) (ap length w ∙ waiting-length upward es ∙ k)
+pub waited-size : {upward : Bool} {es : List Edge} (e : ℕ) (a : List ℕ) {b : List ℕ} → 4 * e ≤ length a → Waited upward es e (take (2 * e) a) b → length (b ++ drop (2 * e) a) ≡ length a
+waited-size e a {b} h v = head-size a b (2 * e) (omega arith) (v .size ∙ length-take-le (2 * e) a (omega arith))
 
-pub laid-waited : (upward : Bool) (rule : FillRule) (g : Settings) (es : List Edge) (e n : ℕ) (ks : List ℤ) {d d′ : List Float} (a : List ℕ) {b a′ : List ℕ} → 4 * e ≤ length a → length es ≡ e → b ≡ waiting upward es
-    → Laid e n (swept upward rule g es [] (take e (b ++ drop e a)) ks) d d′ (b ++ drop e a) a′ → Laid e n (sweptAll upward rule g es ks) d d′ a a′
+pub laid-waited : (upward : Bool) (rule : FillRule) (g : Settings) (es : List Edge) (e n : ℕ) (ks : List ℤ) {d d′ : List Float} (a : List ℕ) {b a′ : List ℕ} → 4 * e ≤ length a → Waited upward es e (take (2 * e) a) b
+    → Laid e n (swept upward rule g es [] (take e (b ++ drop (2 * e) a)) ks) d d′ (b ++ drop (2 * e) a) a′ → Laid e n (sweptAll upward rule g es ks) d d′ a a′
 unfolding sweptAll
-laid-waited upward rule g es e n ks {d} {d′} a {b} {a′} h k w l =
-    let f : length b ≡ e = ap length w ∙ waiting-length upward es ∙ k in
-    let t : take e (b ++ drop e a) ≡ waiting upward es = head-is a b e (omega arith) f ∙ w in
-    let r : Laid e n (swept upward rule g es [] (waiting upward es) ks) d d′ (b ++ drop e a) a′ = rw t at l in
-    record { size = r .size ∙ head-size a b e (omega arith) f; pieces = r .pieces; counts = rw (← head-later a b e (omega arith) f (4 * e) (omega arith)) (r .counts) }
+laid-waited upward rule g es e n ks {d} {d′} a {b} {a′} h v l =
+    let k : length b ≡ 2 * e = v .size ∙ length-take-le (2 * e) a (omega arith) in
+    let t : take e (b ++ drop (2 * e) a) ≡ waiting upward es = head-take a b (2 * e) (omega arith) k e (omega arith) ∙ v .is in
+    let r : Laid e n (swept upward rule g es [] (waiting upward es) ks) d d′ (b ++ drop (2 * e) a) a′ = rw t at l in
+    record { size = r .size ∙ head-size a b (2 * e) (omega arith) k; pieces = r .pieces; counts = rw (← head-later a b (2 * e) (omega arith) k (4 * e) (omega arith)) (r .counts) }

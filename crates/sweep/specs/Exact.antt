@@ -15,7 +15,7 @@ use Rattle.numbers.specs.Num.{_⊖_, literal}
 use Rattle.numbers.specs.Order.{before, magnitude}
 use Rattle.numbers.specs.OrderLaws.{before-trans, before-asym, before-total, not-before-le}
 use Rattle.numbers.specs.FloatOrder.{neg-le}
-use Rattle.seqs.specs.Lists.{each, fold, insertBack, sortBy, byKey, upto, All, Sorted, Keyed}
+use Rattle.seqs.specs.Lists.{each, fold, insertBack, sortBy, byKey, upto, All, Sorted, Strict, Keyed}
 use Rattle.seqs.specs.All.{all-map, all-append, sorted-map}
 use Rattle.seqs.specs.Each.{each-map}
 use Rattle.seqs.specs.Tests.{clash, refute}
@@ -137,6 +137,10 @@ module _ (outline : List (List P)) (g : Settings) (cyc : ℕ) (ok : Checked outl
   neg-number (inf s) h = tt
   neg-number (fin s m e) h = tt
 
+  waits-strict : (upward : Bool) → Strict (by (cond upward Bottom Top) es)
+  waits-strict true = by-key-strict before (keyOf Bottom es) (keyed (keyOf Bottom es) (λ i. neg-fits binary64 (edge es i .y1) (fit i .1)) (λ i. neg-number (edge es i .y1) (number i .1)))
+  waits-strict false = by-key-strict before (keyOf Top es) (keyed (keyOf Top es) (λ i. fit i .0) (λ i. number i .0))
+
   in-order : (upward : Bool) → Sorted (λ i j. T (sooner upward es i j)) (waiting upward es)
   unfolding waiting ordered
   in-order true =
@@ -172,6 +176,10 @@ module _ (outline : List (List P)) (g : Settings) (cyc : ℕ) (ok : Checked outl
       swept-alone upward rule g es Fair (rows-strict outline g cyc ok) (waiting upward es) (all-places upward) (in-order upward) (numbers (rowsOf g es) upward 0) (fair upward)
       (chain (rowsOf g es) upward 0 (rowsOf g es .n - 0) (fair upward))
       ∙ ap (map (piecesOf rule g es)) (numbers-met g es upward (ok .rows))
+
+-- the places that wait have a strict order
+pub sweep-strict : (corners : List Float) (ends : List ℕ) (g : Settings) (stagger : ℕ) → Accepted corners ends g stagger → (upward : Bool) → Strict (by (cond upward Bottom Top) (edges g (rings corners ends)))
+sweep-strict corners ends g stagger accepted upward = waits-strict (rings corners ends) g stagger (checked corners ends g stagger accepted) upward
 
 module _ (corners : List Float) (ends : List ℕ) (g : Settings) (stagger : ℕ) (accepted : Accepted corners ends g stagger) (rule : FillRule) (upward : Bool) where
   -- row by row

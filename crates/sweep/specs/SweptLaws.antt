@@ -8,11 +8,10 @@ use lib.IntN.{ℤ, pos, _+ℤ_}
 use lib.ListN.{length, length-map}
 use lib.Ieee.{Float}
 use Rattle.numbers.specs.Num.{zero64}
-use Rattle.seqs.specs.Lists.{keepIf, sift, each, dropWhile, upto}
+use Rattle.seqs.specs.Lists.{keepIf, sift, each, dropWhile}
 use Rattle.seqs.specs.Records.{Added}
 use Rattle.seqs.specs.Reads.{fuel-more, fuel-none}
 use Rattle.seqs.specs.Sift.{sift-length}
-use Rattle.seqs.specs.Upto.{upto-length}
 use Rattle.seqs.specs.Sort.{perm-length, backs-perm}
 use Rattle.outlines.specs.declared.rule.FillRule.{FillRule}
 use Rattle.outlines.specs.Inside.{inside}
@@ -24,18 +23,13 @@ use Rattle.rules.specs.PieceTable.{pieceBlock}
 use Rattle.edges.specs.declared.rows.Rows.{Rows}
 use Rattle.edges.specs.Span.{rowNumber}
 use Rattle.sweep.specs.declared.key.Key.{Key}
-use Rattle.sweep.specs.declared.key.Key.the-variants.{Top, Bottom}
 use Rattle.sweep.specs.declared.piece.Cut.{Cut}
 use Rattle.sweep.specs.declared.piece.Span.{Span}
-use Rattle.sweep.specs.Swept.{by, ordered, waiting, enters, places, cutAt, cutEnds, wideSpan, cutsFrom, cuts, spanBlock, numbers, swept}
+use Rattle.sweep.specs.Swept.{by, ordered, enters, places, cutAt, cutEnds, wideSpan, cutsFrom, cuts, spanBlock, numbers, swept}
 
 pub ordered-length : (key : Key) (es : List Edge) (l : List ℕ) → length (ordered key es l) ≡ length l
 unfolding ordered
 ordered-length key es l = perm-length (backs-perm (by key es) [] l) ∙ ap length (append-nil l)
-
-pub waiting-length : (upward : Bool) (es : List Edge) → length (waiting upward es) ≡ length es
-unfolding waiting
-waiting-length upward es = ordered-length (cond upward Bottom Top) es (upto 0 (length es)) ∙ upto-length 0 (length es)
 
 -- ---- a row has no more pieces than places
 

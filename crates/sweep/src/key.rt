@@ -1,12 +1,12 @@
-// Places of edges in order: by a key in total order, and where keys are equal by place. Insertion from the back, since they are nearly in order.
+// Places of edges in order: by a key in total order, and where keys are equal by place. Insertion from the back, for few places and for those that are nearly in order.
 ghost use mathlib.Core.Path.{_≡_};
 ghost use mathlib.Core.Bool.{cond};
 ghost use mathlib.Core.List.{[], _++_};
 ghost use Prim.Native.Nat.{_+_, _*_, _≤_, _<_};
 ghost use lib.ListN.{length, take, drop, getD};
-ghost use Rattle.seqs.specs.Lists.{insertBack, upto};
+ghost use Rattle.seqs.specs.Lists.{insertBack};
 ghost use Rattle.edges.specs.Table.{edgesIn};
-ghost use Rattle.sweep.specs.Swept.{keyOf, ahead, by, ordered, waiting};
+ghost use Rattle.sweep.specs.Swept.{keyOf, ahead, by, ordered};
 use edges::edge_at;
 
 // A row's crossings, y0, or y1 with the last first.
@@ -16,7 +16,7 @@ pub enum Key {
     Bottom,
 }
 
-fn key_of(floats: &[f64], e: usize, key: Key, i: usize) -> f64
+pub fn key_of(floats: &[f64], e: usize, key: Key, i: usize) -> f64
     requires { ⌜ 5 * e ≤ length (now floats) ⌝ }
     ensures { λ r. ⌜ r ≡ keyOf key (edgesIn e (now (floats .entry))) i ⌝ }
 {
@@ -29,7 +29,7 @@ fn key_of(floats: &[f64], e: usize, key: Key, i: usize) -> f64
 }
 
 // Whether place i, of key x, comes before place j, of key z, or is it.
-fn ahead(x: f64, i: usize, z: f64, j: usize) -> bool
+pub fn ahead(x: f64, i: usize, z: f64, j: usize) -> bool
     ensures { λ r. ⌜ r ≡ ahead x i z j ⌝ }
 {
     if leaves::before(x, z) {
@@ -70,28 +70,4 @@ pub fn sort(l: &mut [usize], floats: &[f64], e: usize, key: Key)
         insert(l, n, floats, e, key);
         n += 1;
     }
-}
-
-fn count_up(l: &mut [usize])
-    ensures { λ _. ⌜ now (l .exit) ≡ upto 0 (length (now (l .entry))) ⌝ }
-{
-    let mut i = 0;
-    while i < l.len() {
-        l[i] = i;
-        i += 1;
-    }
-}
-
-// All places, in the order in which the sweep takes them up.
-pub fn wait(l: &mut [usize], floats: &[f64], upward: bool)
-    requires { ⌜ 5 * length (now l) ≤ length (now floats) ⌝ }
-    ensures { λ _. ⌜ now (l .exit) ≡ waiting upward (edgesIn (length (now (l .entry))) (now (floats .entry))) ⌝ }
-{
-    let e = l.len();
-    count_up(l);
-    if upward {
-        sort(l, floats, e, Key::Bottom);
-        return;
-    }
-    sort(l, floats, e, Key::Top);
 }

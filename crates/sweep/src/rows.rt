@@ -1,15 +1,18 @@
 // All rows, in the order met.
 ghost use mathlib.Core.Path.{_≡_};
+ghost use mathlib.Core.Bool.{cond};
 ghost use mathlib.Core.List.{[]};
 ghost use Prim.Native.Nat.{_*_, _≤_, _<_};
 ghost use lib.ListN.{length, take};
+ghost use Rattle.seqs.specs.Lists.{Strict};
 ghost use Rattle.edges.specs.Table.{edgesIn};
 ghost use Rattle.edges.specs.Span.{rowNumber, Spanned};
-ghost use Rattle.sweep.specs.Swept.{cutAt, numbers, swept, sweptAll, Lent, Laid};
+ghost use Rattle.sweep.specs.declared.key.Key.the-variants.{Top, Bottom};
+ghost use Rattle.sweep.specs.Swept.{by, cutAt, numbers, swept, sweptAll, Lent, Laid};
 use crate::active::Live;
-use crate::key::wait;
 use crate::piece::Cut;
 use crate::row::row;
+use crate::waiting::wait;
 use edges::Rows;
 use edges::row_at;
 use edges::row_number;
@@ -69,9 +72,9 @@ pub fn sweep(
     upward: bool,
     w: Rows,
 ) -> usize
-    requires { ⌜ Lent (now floats) (now wholes) e w ⌝ }
+    requires { ⌜ Lent (now floats) (now wholes) e w × Strict (by (cond upward Bottom Top) (edgesIn e (now floats))) ⌝ }
     ensures { λ n. ⌜ Laid e n (sweptAll upward rule g (edgesIn e (now (floats .entry))) (numbers w upward 0)) (now (floats .entry)) (now (floats .exit)) (now (wholes .entry)) (now (wholes .exit)) ⌝ }
 {
-    wait(&mut wholes[..e], floats, upward);
+    wait(&mut wholes[..2 * e], floats, e, upward);
     all_rows(floats, wholes, e, rule, g, upward, w)
 }

@@ -1,7 +1,7 @@
 -- Edges and pieces as far as there is room, then the need. Assumes nothing.
 use mathlib.Core.Path.{refl}
 use native.Mathlib.Omega.{arith}
-use Rattle.finding.specs.FindLaws.{short-floats, short-wholes, outlined, few-edges, edge-count, lent, piece-count, few-found, holds}
+use Rattle.finding.specs.FindLaws.{short-floats, short-wholes, outlined, few-edges, edge-count, lent, lent-strict, piece-count, few-found, holds}
 use borrow.Author.Needs.{needs}
 use Rattle.finding.proofs.find.find.Statement.{statement}
 use Rattle.finding.proofs.find.find.Tie as tie
@@ -19,7 +19,7 @@ returns-2 : tie.Need-returns-2
 returns-2 c = record { is = short-wholes (c .before .before .before .before .before .before .before .before .before .before .args .corners .now) (c .before .before .before .before .before .before .before .before .before .before .args .ends .now) (c .before .before .before .before .before .before .before .before .before .before .args .t) _ _ (omega (arith, c .if2 .taken, edge-count (c .before .before .before .before .before .before .before .before .before .before .args .corners .now) (c .before .before .before .before .before .before .before .before .before .before .args .ends .now) (c .before .before .before .before .before .before .before .before .before .before .args .t) (c .before .before .before .before .before .before .before .before .before .before .pre) _ (c .before .before .before .before .build .ensures))) }
 
 sweep-requires : tie.Need-sweep-requires
-sweep-requires c κs = lent (c .before .before .before .before .before .before .before .before .before .before .before .before .args .corners .now) (c .before .before .before .before .before .before .before .before .before .before .before .before .args .ends .now) (c .before .before .before .before .before .before .before .before .before .before .before .before .args .t) (c .before .before .before .before .before .before .before .before .before .before .before .before .pre) _ (c .before .before .before .before .before .before .build .ensures) _ (search needs) (search needs) (search needs)
+sweep-requires c κs = (lent (c .before .before .before .before .before .before .before .before .before .before .before .before .args .corners .now) (c .before .before .before .before .before .before .before .before .before .before .before .before .args .ends .now) (c .before .before .before .before .before .before .before .before .before .before .before .before .args .t) (c .before .before .before .before .before .before .before .before .before .before .before .before .pre) _ (c .before .before .before .before .before .before .build .ensures) _ (search needs) (search needs) (search needs), lent-strict (c .before .before .before .before .before .before .before .before .before .before .before .before .args .corners .now) (c .before .before .before .before .before .before .before .before .before .before .before .before .args .ends .now) (c .before .before .before .before .before .before .before .before .before .before .before .before .args .t) (c .before .before .before .before .before .before .before .before .before .before .before .before .pre) _ (c .before .before .before .before .before .before .build .ensures) (search needs))
 
 mul-if3-2 : tie.Need-mul-if3-2
 mul-if3-2 c = let a = c .before .before .before .before .before .before .before .before .before .before .before .before .before .before .before .before .before .args in omega (arith, few-found (a .corners .now) (a .ends .now) (a .t) (c .before .before .before .before .before .before .before .before .before .before .before .before .before .before .before .before .before .pre) _ (c .before .before .before .before .before .before .before .before .before .before .before .build .ensures) _ (search needs) (c .before .before .before .before .sweep .ensures))

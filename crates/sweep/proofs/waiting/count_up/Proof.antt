@@ -7,8 +7,8 @@ use Rattle.seqs.specs.Upto.{upto-next, upto-none, upto-length}
 use Rattle.seqs.specs.Reads.{whole}
 use Rattle.seqs.specs.Front.{Front, front-start, front-push, front-end, front-at}
 use borrow.Author.Needs.{needs}
-use Rattle.sweep.proofs.key.count_up.Statement.{statement}
-use Rattle.sweep.proofs.key.count_up.Tie as tie
+use Rattle.sweep.proofs.waiting.count_up.Statement.{statement}
+use Rattle.sweep.proofs.waiting.count_up.Tie as tie
 
 abbrev Inv-loop : tie.InvT-loop
 Inv-loop l₀ i₀ l i = Front l₀ l i (upto i (length l₀ - i)) (upto 0 (length l₀))
