@@ -10,6 +10,7 @@ mod limits {
     use super::*;
     use std::ops::RangeInclusive;
     use zigzag::geom::P;
+    use zigzag::satin::Rails;
 
     pub const LAYOUT: u64 = 1;
     pub const SETTING: u64 = 3;
@@ -30,6 +31,10 @@ mod limits {
     pub const ROWS: i64 = 4096;
     pub const CELL: RangeInclusive<f64> = 1.0..=1000.0;
     pub const CELLS: f64 = 4096.0;
+    pub const SYNCS: usize = 256;
+    pub const SPLIT: RangeInclusive<f64> = 0.5..=1000.0; // or 0, where a split may be absent
+    pub const UNDERLAY: RangeInclusive<u64> = 0..=7;
+    pub const PAIRS: u64 = 65_536;
 
     /// The number of the first check that doesn't hold, in the table's order.
     pub fn first(checks: &[(u64, bool)]) -> u64 {
@@ -49,6 +54,10 @@ mod limits {
 
     pub fn line(corners: &[f64]) -> bool {
         corners.len() % 2 == 0 && corners.len() / 2 <= CORNERS
+    }
+
+    pub fn sync(list: &[f64]) -> bool {
+        list.len() % 2 == 0 && list.len() / 2 <= SYNCS
     }
 
     pub fn numbers(list: &[f64]) -> bool {
@@ -93,5 +102,37 @@ mod limits {
         let one = resample_points(&base, len);
         let more = (passes.max(1) - 1).saturating_mul(one.saturating_sub(1));
         one.saturating_add(more)
+    }
+
+    /// The n of `pairs`, without making them: each rail's length, the sync
+    /// points that are kept, and the centre length of all windows together.
+    pub fn steps(r: &Rails, step: f64) -> u64 {
+        let ends = (arc_length(&r.a), arc_length(&r.b));
+        let mut from = (0.0, 0.0);
+        let mut total = 0.0;
+        let mut window = |to: (f64, f64)| {
+            total += ((to.0 - from.0) + (to.1 - from.1)) * 0.5;
+            from = to;
+        };
+        let mut last = (0.0, 0.0);
+        for &(a, b) in &r.sync {
+            if a > last.0 && b > last.1 && a < ends.0 && b < ends.1 {
+                last = (a, b);
+                window(last);
+            }
+        }
+        window(ends);
+        (total / step).ceil().max(1.0) as u64
+    }
+
+    pub fn arc_length(pts: &[P]) -> f64 {
+        pts.windows(2).fold(0.0, |s, w| s + w[0].dist(w[1]))
+    }
+
+    /// How many points `split_long` gives, without making them.
+    pub fn split_points(pts: &[P], max: f64) -> u64 {
+        let parts = |w: &[P]| ((w[0].dist(w[1]) / max).ceil() as u64).max(1);
+        let all = pts.windows(2).map(parts).fold(0, u64::saturating_add);
+        all.saturating_add(u64::from(!pts.is_empty()))
     }
 }

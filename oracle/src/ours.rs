@@ -586,3 +586,125 @@ pub mod patterns {
         }
     }
 }
+
+/// Satin columns.
+pub mod satin {
+    use crate::inputs::rails::{Column, Matched, Path, Rails};
+
+    unsafe extern "C" {
+        fn beahcerot_split_long(
+            line: *const f64,
+            line_len: usize,
+            max: f64,
+            out: *mut f64,
+            out_len: usize,
+            count: *mut u64,
+        ) -> u64;
+        fn beahcerot_s_stitch(
+            line: *const f64,
+            line_len: usize,
+            out: *mut f64,
+            out_len: usize,
+            count: *mut u64,
+        ) -> u64;
+        fn beahcerot_pairs(
+            a: *const f64,
+            a_len: usize,
+            b: *const f64,
+            b_len: usize,
+            sync: *const f64,
+            sync_len: usize,
+            step: f64,
+            work: *mut f64,
+            work_len: usize,
+            out: *mut f64,
+            out_len: usize,
+            count: *mut u64,
+        ) -> u64;
+        fn beahcerot_column(
+            a: *const f64,
+            a_len: usize,
+            b: *const f64,
+            b_len: usize,
+            sync: *const f64,
+            sync_len: usize,
+            spacing: f64,
+            pull: f64,
+            underlay: u64,
+            run_len: f64,
+            short_stitches: bool,
+            split: f64,
+            style: u64,
+            work: *mut f64,
+            work_len: usize,
+            out: *mut f64,
+            out_len: usize,
+            count: *mut u64,
+        ) -> u64;
+    }
+
+    pub fn split_long(p: &Path, out: &mut [f64], count: &mut u64) -> u64 {
+        let (line, room) = (&p.line, out.len());
+        unsafe {
+            beahcerot_split_long(
+                line.as_ptr(),
+                line.len(),
+                p.max,
+                out.as_mut_ptr(),
+                room,
+                count,
+            )
+        }
+    }
+
+    pub fn s_stitch(line: &[f64], out: &mut [f64], count: &mut u64) -> u64 {
+        let room = out.len();
+        unsafe { beahcerot_s_stitch(line.as_ptr(), line.len(), out.as_mut_ptr(), room, count) }
+    }
+
+    pub fn pairs(m: &Matched, work: &mut [f64], out: &mut [f64], count: &mut u64) -> u64 {
+        let Rails { a, b, sync } = &m.rails;
+        unsafe {
+            beahcerot_pairs(
+                a.as_ptr(),
+                a.len(),
+                b.as_ptr(),
+                b.len(),
+                sync.as_ptr(),
+                sync.len(),
+                m.step,
+                work.as_mut_ptr(),
+                work.len(),
+                out.as_mut_ptr(),
+                out.len(),
+                count,
+            )
+        }
+    }
+
+    pub fn column(c: &Column, work: &mut [f64], out: &mut [f64], count: &mut u64) -> u64 {
+        let Rails { a, b, sync } = &c.rails;
+        unsafe {
+            beahcerot_column(
+                a.as_ptr(),
+                a.len(),
+                b.as_ptr(),
+                b.len(),
+                sync.as_ptr(),
+                sync.len(),
+                c.spacing,
+                c.pull,
+                c.underlay,
+                c.run_len,
+                c.short_stitches,
+                c.split,
+                c.style,
+                work.as_mut_ptr(),
+                work.len(),
+                out.as_mut_ptr(),
+                out.len(),
+                count,
+            )
+        }
+    }
+}

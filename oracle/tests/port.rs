@@ -1,5 +1,6 @@
 //! Findings of docs/FINDINGS.md through the proved library's entries, beside
-//! the original: what each does with the input. It needs the archive.
+//! the original: what each does with the input; and the sheet's K10 and K11. It
+//! needs the archive.
 
 // The driver's modules are read here as a test's own; it doesn't use all of them.
 #![allow(dead_code)]
@@ -10,7 +11,7 @@ mod expect;
 mod inputs;
 #[path = "../src/ours.rs"]
 mod ours;
-#[path = "../src/owed.rs"]
+#[path = "../src/owed/mod.rs"]
 mod owed;
 #[path = "../src/rng.rs"]
 mod rng;
@@ -18,6 +19,7 @@ mod rng;
 use common::{block, line};
 use inputs::boundaries::bare_strip;
 use inputs::fills::Fill;
+use inputs::rails::{Matched, Rails};
 use zigzag::fill::{Piece, row_list, row_list_by_place, tatami, tatami_by_place};
 use zigzag::geom::{P, Polyline};
 
@@ -25,7 +27,7 @@ use zigzag::geom::{P, Polyline};
 const QUARTER: f64 = f64::from_bits(0x3c91a62633145c07);
 
 fn port_row_list(f: &Fill) -> Vec<Piece> {
-    let need = owed::row_list_need(f).unwrap();
+    let need = owed::fill::row_list_need(f).unwrap();
     let (mut floats, mut wholes) = (vec![0.0; need[0]], vec![0; need[1]]);
     let mut ys = vec![0.0; need[2]];
     let (mut rows, mut section_numbers) = (vec![0; need[3]], vec![0; need[4]]);
@@ -55,7 +57,7 @@ fn port_row_list(f: &Fill) -> Vec<Piece> {
 }
 
 fn port_tatami(f: &Fill) -> Vec<Polyline> {
-    let need = owed::tatami_need(f).unwrap();
+    let need = owed::fill::tatami_need(f).unwrap();
     let (mut floats, mut wholes) = (vec![0.0; need[0]], vec![0; need[1]]);
     let (mut points, mut ends) = (vec![0.0; need[2]], vec![0; need[3]]);
     let (mut sections, mut count) = (0, 0);
@@ -182,4 +184,26 @@ fn f6_a_crossing_at_minus_zero() {
     assert_eq!(rows(&f).len(), 2);
     let zeros: Vec<u64> = port_row_list(&f).iter().map(|p| p.xb.to_bits()).collect();
     assert_eq!(zeros, [1 << 63; 2]);
+}
+
+#[test]
+fn k10_and_k11_through_the_archive() {
+    let k10 = Matched {
+        rails: Rails::bar(10.0, 10.0, 4.0),
+        step: 5.0,
+    };
+    let need = owed::satin::pairs_need(&k10).unwrap();
+    // Two rails of two corners, no sync points, three pairs.
+    assert_eq!(need, [2 + 2 + 4 + 8 * 3, 12]);
+    let (mut work, mut out) = (vec![1.0; need[0]], vec![0.0; need[1]]);
+    let mut count = 0;
+    let answer = ours::satin::pairs(&k10, &mut work, &mut out, &mut count);
+    assert_eq!((answer, count), (expect::DONE, 6));
+    let at = |x: f64| [x, 0.0, x, 4.0];
+    assert_eq!(out, [0.0, 5.0, 10.0].map(at).concat());
+    assert_eq!(work, vec![0.0; need[0]]);
+    let six = [0.0, 0.0, 6.0, 0.0];
+    let mut out = vec![0.0; 4];
+    let answer = ours::satin::s_stitch(&six, &mut out, &mut count);
+    assert_eq!((answer, count, out), (expect::DONE, 2, six.to_vec()));
 }

@@ -10,7 +10,7 @@
 mod expect;
 #[path = "../src/inputs/mod.rs"]
 mod inputs;
-#[path = "../src/owed.rs"]
+#[path = "../src/owed/mod.rs"]
 mod owed;
 #[path = "../src/rng.rs"]
 mod rng;
@@ -18,7 +18,8 @@ mod rng;
 use inputs::boundaries::boundaries;
 use inputs::fills::{self, Fill};
 use inputs::outlines::{Outline, block};
-use owed::{MARGIN, Order};
+use owed::MARGIN;
+use owed::fill::Order;
 use rng::Rng;
 use std::fs::File;
 use std::io::{Read, Seek, Write, stderr};
@@ -206,12 +207,12 @@ fn decode(mut bytes: &[u8]) -> Option<Fill> {
 
 /// What the program owes for a fill: "answer sections points", then the points.
 fn wanted(f: &Fill) -> String {
-    let order = if owed::tied(f) {
+    let order = if owed::fill::tied(f) {
         Order::ByPlace
     } else {
         Order::Original
     };
-    let left = owed::tatami(f, &LENT, order);
+    let left = owed::fill::tatami(f, &LENT, order);
     let (sections, count) = (left.counts[0] as usize, left.counts[1] as usize);
     let mut text = format!("{} {sections} {count}\n", left.answer);
     let points = &left.slices[2][MARGIN..];
@@ -339,7 +340,7 @@ fn sections(count: usize) -> Fill {
 /// What the program lends is enough to the last word, and no further.
 #[test]
 fn each_end_of_what_is_lent() {
-    let need = |f: &Fill| owed::tatami_need(f).unwrap();
+    let need = |f: &Fill| owed::fill::tatami_need(f).unwrap();
     // 4E + 6I wholes: two sides, 1,364 rows.
     assert_eq!(need(&rows(1364))[1], LENT[1]);
     // 6E + 4I floats: 1,024 sides, 512 rows.

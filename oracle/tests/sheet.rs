@@ -7,7 +7,7 @@ use common::{block, line, settings};
 use zigzag::fill::{FillParams, Piece, row_list, row_list_by_place, tatami, tatami_by_place, ties};
 use zigzag::geom::{FillRule, P, Polyline, point_inside};
 use zigzag::patterns::{bounds, cross_stitch};
-use zigzag::satin::{Rails, pairs, s_stitch};
+use zigzag::satin::{Rails, SatinParams, SatinStyle, column, pairs, s_stitch};
 use zigzag::stroke::running;
 
 fn q() -> Vec<Polyline> {
@@ -74,13 +74,48 @@ fn k7_to_k12() {
         b: line(&[(0.0, 4.0), (10.0, 4.0)]),
         sync: Vec::new(),
     };
-    let xs: Vec<f64> = pairs(&rails, 5.0).iter().map(|w| w.0.x).collect();
-    assert_eq!(xs, [0.0, 5.0, 10.0]);
+    let at = |x| (P::new(x, 0.0), P::new(x, 4.0));
+    assert_eq!(pairs(&rails, 5.0), [0.0, 5.0, 10.0].map(at));
     let six = line(&[(0.0, 0.0), (6.0, 0.0)]);
     assert_eq!(s_stitch(&six), six);
     let ten = line(&[(0.0, 0.0), (10.0, 0.0)]);
     let xs: Vec<f64> = running(&ten, false, 5.0, 2).iter().map(|q| q.x).collect();
     assert_eq!(xs, [0.0, 5.0, 10.0, 5.0, 0.0]);
+}
+
+// What satinrules/specs/Ks shows of the definitions: K10's rails with every
+// underlay, and a top split at 2.
+#[test]
+fn a_column_over_k10() {
+    let rails = Rails {
+        a: line(&[(0.0, 0.0), (10.0, 0.0)]),
+        b: line(&[(0.0, 4.0), (10.0, 4.0)]),
+        sync: Vec::new(),
+    };
+    let settings = SatinParams {
+        spacing: 5.0,
+        pull: 1.0,
+        underlay: 7,
+        run_len: 5.0,
+        short_stitches: true,
+        split: Some(2.0),
+        style: SatinStyle::Plain,
+    };
+    let sewn = column(&rails, &settings);
+    let centre = line(&[(0.0, 2.0), (5.0, 2.0), (10.0, 2.0)]);
+    // From the end: back along a, and out along b.
+    let contour = [
+        (10.0, 1.0),
+        (5.0, 1.0),
+        (0.0, 1.0),
+        (0.0, 3.0),
+        (5.0, 3.0),
+        (10.0, 3.0),
+    ];
+    let zigzag = line(&[(10.0, 3.0), (0.0, 1.0)]);
+    assert_eq!(sewn.len(), 29);
+    assert_eq!(sewn[..11], [centre, line(&contour), zigzag].concat());
+    assert_eq!((sewn[11], sewn[28]), (P::new(0.0, -1.0), P::new(10.0, 5.0)));
 }
 
 #[test]

@@ -18,7 +18,7 @@ use Rattle.geom.specs.declared.point.P.{P}
 use Rattle.geom.specs.Point.{len, dist}
 use Rattle.geom.specs.Outline.{points}
 use Rattle.geom.specs.OutlineLaws.{points-length}
-use Rattle.geom.specs.Limits.{largest, goodNumber, goodNumbers}
+use Rattle.limits.specs.Limits.{largest, goodNumber, goodNumbers}
 use Rattle.satinrules.specs.Arc.{lengthsFrom, lengths}
 use Rattle.arc.specs.Rail.{Rising, Railed}
 use Rattle.arc.specs.RailLaws.{lengths-count}

@@ -9,7 +9,7 @@ use lib.Ieee.{Float}
 use Rattle.seqs.specs.Front.{Front, front-at, front-count, front-room-block, front-whole}
 use Rattle.seqs.specs.Slices.{put}
 use Rattle.geom.specs.declared.point.P.{P}
-use Rattle.geom.specs.declared.rule.FillRule.{FillRule}
+use Rattle.outlines.specs.declared.rule.FillRule.{FillRule}
 use Rattle.geom.specs.Outline.{points, rings}
 use Rattle.geom.specs.OutlineLaws.{cornerAt}
 use Rattle.geom.specs.Sewing.{flat}

@@ -11,7 +11,7 @@ use lib.Ieee.{Float}
 use borrow.Author.Tests.{le-ltb, ltb-true, ltb-false}
 use Rattle.seqs.specs.Tests.{either}
 use Rattle.geom.specs.declared.point.P.{P}
-use Rattle.geom.specs.declared.rule.FillRule.{FillRule}
+use Rattle.outlines.specs.declared.rule.FillRule.{FillRule}
 use Rattle.geom.specs.Outline.{points, rings}
 use Rattle.geom.specs.OutlineLaws.{cornerAt, points-length, points-next, points-end}
 use Rattle.rules.specs.Calls.{sewnPoints, sewnEnds}

@@ -9,7 +9,7 @@ use Rattle.seqs.specs.Front.{Front, front-at, front-count, front-room, front-pu
 use Rattle.seqs.specs.Slices.{put}
 use Rattle.seqs.specs.Wrote.{put-room, put-end}
 use Rattle.geom.specs.declared.point.P.{P}
-use Rattle.geom.specs.declared.rule.FillRule.{FillRule}
+use Rattle.outlines.specs.declared.rule.FillRule.{FillRule}
 use Rattle.geom.specs.Sewing.{flat}
 use Rattle.geom.specs.SewingLaws.{flat-length, flat-append, points-room, points-put}
 use Rattle.rules.specs.Calls.{sewnPoints, sewnEnds}

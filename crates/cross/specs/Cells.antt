@@ -10,8 +10,8 @@ use mir.Val.{SFits}
 use Rattle.seqs.specs.Lists.{upto, sift, fold}
 use Rattle.seqs.specs.Slices.{capped}
 use Rattle.geom.specs.declared.point.P.{P}
-use Rattle.geom.specs.declared.rule.FillRule.{FillRule}
-use Rattle.geom.specs.Limits.{mostCells}
+use Rattle.outlines.specs.declared.rule.FillRule.{FillRule}
+use Rattle.limits.specs.Limits.{mostCells}
 use Rattle.patterns_rules.specs.declared.Bounds.{Bounds}
 use Rattle.patterns_rules.specs.declared.Grid.{Grid}
 use Rattle.patterns_rules.specs.declared.Run.{Run}

@@ -21,7 +21,7 @@ use Rattle.seqs.specs.Slices.{capped}
 use Rattle.seqs.specs.Tests.{either}
 use Rattle.seqs.specs.Capped.{capped-in, capped-over, capped-exact, capped-past}
 use Rattle.seqs.specs.Ints.{above, below, gap, le-makes, lt-says, lt-denies, fits-says, add-parts, fits-between}
-use Rattle.geom.specs.Limits.{mostCells}
+use Rattle.limits.specs.Limits.{mostCells}
 use Rattle.patterns_rules.specs.declared.Bounds.{Bounds}
 use Rattle.patterns_rules.specs.declared.Grid.{Grid}
 use Rattle.patterns_rules.specs.Patterns.{upTo, firstCell, pastCell, gridIn}

@@ -13,7 +13,7 @@ use Rattle.seqs.specs.Lists.{upto, sift, each}
 use Rattle.seqs.specs.Tests.{either}
 use Rattle.seqs.specs.Upto.{upto-length}
 use Rattle.geom.specs.declared.point.P.{P}
-use Rattle.geom.specs.declared.rule.FillRule.{FillRule}
+use Rattle.outlines.specs.declared.rule.FillRule.{FillRule}
 use Rattle.rules.specs.Calls.{sewnPoints}
 use Rattle.patterns_rules.specs.declared.Grid.{Grid}
 use Rattle.patterns_rules.specs.declared.Run.{Run}

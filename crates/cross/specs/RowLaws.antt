@@ -12,7 +12,7 @@ use Rattle.seqs.specs.Upto.{upto-length, upto-at, upto-next, upto-none}
 use Rattle.seqs.specs.Front.{next, none}
 use Rattle.seqs.specs.Reverse.{getD-reverse}
 use Rattle.geom.specs.declared.point.P.{P}
-use Rattle.geom.specs.declared.rule.FillRule.{FillRule}
+use Rattle.outlines.specs.declared.rule.FillRule.{FillRule}
 use Rattle.geom.specs.Sewing.{flat}
 use Rattle.geom.specs.SewingLaws.{flat-length, flat-append}
 use Rattle.rules.specs.Calls.{sewnPoints, sewnEnds}

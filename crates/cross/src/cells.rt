@@ -5,9 +5,9 @@ ghost use Rattle.geom.specs.Outline.{rings, Layout};
 ghost use Rattle.patterns_rules.specs.Patterns.{cellInside};
 ghost use Rattle.cross.specs.Cells.{Laid, First, Stop, Next};
 use crate::grid::x_at;
-use geom::FillRule;
 use geom::P;
-use geom::inside::point_inside;
+use outlines::FillRule;
+use outlines::inside::point_inside;
 use patterns_rules::Grid;
 use patterns_rules::Run;
 

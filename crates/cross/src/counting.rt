@@ -7,7 +7,7 @@ ghost use Rattle.patterns_rules.specs.Answers.{countOf};
 ghost use Rattle.cross.specs.Cells.{Laid};
 use crate::cells::next_run;
 use crate::grid::y_at;
-use geom::FillRule;
+use outlines::FillRule;
 use patterns_rules::Count;
 use patterns_rules::Grid;
 

@@ -6,7 +6,7 @@ ghost use lib.IntN.{natAbs, _-ℤ_};
 ghost use lib.Signed.{ltZ};
 ghost use Rattle.seqs.specs.Slices.{capped};
 ghost use Rattle.geom.specs.Outline.{points};
-ghost use Rattle.geom.specs.Limits.{mostCells};
+ghost use Rattle.limits.specs.Limits.{mostCells};
 ghost use Rattle.patterns_rules.specs.Patterns.{upTo, gridIn, xAt, yAt};
 ghost use Rattle.cross.specs.Cells.{boundsOf, stopped, Laid};
 use leaves::ceil;

@@ -1,3 +1,4 @@
 -- What the contracts of `exports` cite.
 pub mod Stored
 pub mod Fills
+pub mod Borders

@@ -6,8 +6,8 @@ use lib.Dec.{eqb}
 use lib.Ieee.{Float}
 use Rattle.refusal.specs.Refusal.{Answer}
 use Rattle.geom.specs.declared.point.P.{P}
-use Rattle.geom.specs.declared.rule.FillRule.{FillRule}
-use Rattle.geom.specs.declared.rule.FillRule.the-variants.{NonZero, EvenOdd}
+use Rattle.outlines.specs.declared.rule.FillRule.{FillRule}
+use Rattle.outlines.specs.declared.rule.FillRule.the-variants.{NonZero, EvenOdd}
 
 module _ {A B : Type 0} where
   -- f of the value, or what stood there

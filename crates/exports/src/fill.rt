@@ -2,8 +2,10 @@
 ghost use mathlib.Core.Path.{_≡_};
 ghost use Rattle.tatami.specs.Left.{left, leftList, tatamiLeft, rowListLeft};
 ghost use Rattle.exports.specs.Stored.{ruleOf};
+ghost use Rattle.fillroom.specs.Room.{roomOf};
 ghost use Rattle.exports.specs.Fills.{settings, filled, listed};
 use crate::shape::rule_of;
+use fillroom::fill_room;
 use rules::Settings;
 
 #[no_mangle]
@@ -99,5 +101,36 @@ pub extern "C" fn beahcerot_row_list(
         wholes,
     );
     *pieces = r.pieces;
+    r.answer
+}
+
+// Working room that is always enough: how many floats and whole numbers, none after a refusal.
+#[no_mangle]
+pub extern "C" fn beahcerot_fill_room(
+    corners: &[f64],
+    ends: &[usize],
+    spacing: f64,
+    len: f64,
+    inset: f64,
+    pull: f64,
+    cosine: f64,
+    sine: f64,
+    stagger: u64,
+    floats: &mut u64,
+    wholes: &mut u64,
+) -> u64
+    ensures { λ r. ⌜ (r ≡ roomOf (now (corners .entry)) (now (ends .entry)) (settings spacing len inset pull cosine sine) stagger .answer) × (now (floats .exit) ≡ roomOf (now (corners .entry)) (now (ends .entry)) (settings spacing len inset pull cosine sine) stagger .floats) × (now (wholes .exit) ≡ roomOf (now (corners .entry)) (now (ends .entry)) (settings spacing len inset pull cosine sine) stagger .wholes) ⌝ }
+{
+    let g = Settings {
+        spacing,
+        len,
+        inset,
+        pull,
+        cosine,
+        sine,
+    };
+    let r = fill_room(corners, ends, g, stagger);
+    *floats = r.floats;
+    *wholes = r.wholes;
     r.answer
 }

@@ -1,16 +1,16 @@
 // Points, outlines and winding: each answers document 01's number, and stores the value where that is DONE.
 ghost use mathlib.Core.Path.{_≡_};
 ghost use Rattle.geometry.specs.Answers.{saidSpot, saidWound, saidTruth, dotAnswer, lenAnswer, distAnswer, normAnswer, perpAnswer, rotateAnswer, lerpAnswer, crossAnswer, windingAnswer, pointInsideAnswer, segmentInsideAnswer};
-ghost use Rattle.geom.specs.Inside.{inside};
+ghost use Rattle.outlines.specs.Inside.{inside};
 ghost use Rattle.geom.specs.Point.{point};
 ghost use Rattle.exports.specs.Stored.{stored, storedX, storedY, storedTruth, bit, ruleOf};
 use crate::number::store;
-use geom::FillRule;
 use geom::P;
 use geometry::checked;
 use geometry::checked::Spot;
 use geometry::checked::Truth;
 use geometry::checked::Wound;
+use outlines::FillRule;
 use refusal::DONE;
 
 fn store_spot(s: Spot, px: &mut f64, py: &mut f64) -> u64

@@ -4,7 +4,7 @@ ghost use Prim.Native.Nat.{_≤_};
 ghost use lib.ListN.{length};
 ghost use Rattle.geolists.specs.Asked.{ruleOf};
 ghost use Rattle.fillists.specs.Given.{endsAt, settingsOf, fits};
-use geom::FillRule;
+use outlines::FillRule;
 use rules::Settings;
 
 // The most words that a record lends in one slice.

@@ -1,6 +1,6 @@
 -- Words read one after the other, and short lists of them compared.
 use mathlib.Core.Path.{_≡_, refl, sym, ap, _∙_}
-use mathlib.Core.Bool.{Bool, true, false, _&&_, cond}
+use mathlib.Core.Bool.{Bool, true, false, _&&_, cond, and-false, and-true}
 use mathlib.Core.List.{List, [], _∷_, _++_, append-nil}
 use Prim.Native.Nat.{ℕ, zero, suc, _+_, _-_, _≤_, _<_}
 use native.Mathlib.Nat.{lt-irrefl}
@@ -33,10 +33,6 @@ unfolding wordsFrom
 words-none n i at s h =
     let e : n - i ≡ 0 = omega arith in
     ap (λ (k : ℕ). wordsFrom k at s) e
-
-and-true : (a : Bool) → (a && true) ≡ a
-and-true true = refl
-and-true false = refl
 
 pub all-none : (ok : Bool) (n i at : ℕ) (s : List ℕ) → n ≤ i → (ok && allFrom (n - i) at s) ≡ ok
 unfolding allFrom
@@ -88,10 +84,6 @@ floats-length [] = refl
 floats-length (x ∷ w) = ap suc (floats-length w)
 
 -- ---- lists compared
-and-false : (a : Bool) → (a && false) ≡ false
-and-false true = refl
-and-false false = refl
-
 same-other : (a b : List ℕ) → (length b ≡ length a → ⊥) → same a b ≡ false
 unfolding same
 same-other [] [] h = absurd (h refl)

@@ -6,8 +6,8 @@ use lib.Dec.{eqb, leb}
 use lib.ListN.{length, take, drop, getD}
 use lib.Ieee.{Float, nan}
 use Rattle.geom.specs.declared.point.P.{P}
-use Rattle.geom.specs.declared.rule.FillRule.{FillRule}
-use Rattle.geom.specs.declared.rule.FillRule.the-variants.{NonZero, EvenOdd}
+use Rattle.outlines.specs.declared.rule.FillRule.{FillRule}
+use Rattle.outlines.specs.declared.rule.FillRule.the-variants.{NonZero, EvenOdd}
 use Rattle.geom.specs.Point.{point}
 use Rattle.geometry.specs.Answers.{dotAnswer, lenAnswer, distAnswer, normAnswer, perpAnswer, rotateAnswer, lerpAnswer, crossAnswer, windingAnswer, pointInsideAnswer, segmentInsideAnswer}
 use Rattle.geometry.specs.LineAnswers.{polylineLengthAnswer}

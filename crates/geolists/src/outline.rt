@@ -5,9 +5,9 @@ ghost use Rattle.geolists.specs.Asked.{ruleOf, windingWords, pointWords,
 use crate::said::Said;
 use crate::said::of_truth;
 use crate::said::of_wound;
-use geom::FillRule;
 use geom::P;
 use geometry::checked;
+use outlines::FillRule;
 
 fn rule_of(n: usize) -> FillRule
     ensures { λ r. ⌜ r ≡ ruleOf n ⌝ }

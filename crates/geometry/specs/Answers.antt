@@ -6,7 +6,7 @@ use lib.IntN.{ℤ}
 use lib.Ieee.{Float}
 use Rattle.refusal.specs.Refusal.{DONE, LAYOUT, NUMBER, SETTING, TURN, Answer, done, refused, unless, _then_, answer}
 use Rattle.geom.specs.declared.point.P.{P}
-use Rattle.geom.specs.declared.rule.FillRule.{FillRule}
+use Rattle.outlines.specs.declared.rule.FillRule.{FillRule}
 use Rattle.geometry.specs.declared.checked.Spot.{Spot}
 use Rattle.geometry.specs.declared.checked.Spot.the-variants as spot
 use Rattle.geometry.specs.declared.checked.Wound.{Wound}
@@ -15,9 +15,9 @@ use Rattle.geometry.specs.declared.checked.Truth.{Truth}
 use Rattle.geometry.specs.declared.checked.Truth.the-variants as truth
 use Rattle.geom.specs.Point.{dot, len, dist, norm, perp, rotate, lerp, cross}
 use Rattle.geom.specs.Outline.{rings}
-use Rattle.geom.specs.Winding.{winding}
-use Rattle.geom.specs.Inside.{inside, pointInside, segmentInside}
-use Rattle.geom.specs.Limits.{goodNumber, goodPoint, goodNumbers, goodTurn, goodStep, goodOutline}
+use Rattle.outlines.specs.Winding.{winding}
+use Rattle.outlines.specs.Inside.{inside, pointInside, segmentInside}
+use Rattle.limits.specs.Limits.{goodNumber, goodPoint, goodNumbers, goodTurn, goodStep, goodOutline}
 
 abbrev pub saidSpot : Spot → Answer P
 saidSpot (spot.At p) = done p

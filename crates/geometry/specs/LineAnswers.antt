@@ -8,8 +8,8 @@ use Rattle.refusal.specs.Sewn.{sewn, output}
 use Rattle.refusal.specs.declared.Sewn.{Sewn}
 use Rattle.geom.specs.Outline.{points}
 use Rattle.geom.specs.Sewing.{flat, fitted}
-use Rattle.geom.specs.Limits.{goodNumbers, goodLen, goodLine}
-use Rattle.geom.specs.Line.{polylineLength, resampleKeepCorners}
+use Rattle.limits.specs.Limits.{goodNumbers, goodLen, goodLine}
+use Rattle.polyline.specs.Line.{polylineLength, resampleKeepCorners}
 
 -- of a line: its layout, then its corners
 abbrev pub line : List Float → ℕ

@@ -2,15 +2,15 @@
 ghost use mathlib.Core.Path.{_≡_};
 ghost use Rattle.leaves.specs.Answer.{said};
 ghost use Rattle.geometry.specs.Answers.{saidSpot, saidWound, saidTruth, dotAnswer, lenAnswer, distAnswer, normAnswer, perpAnswer, rotateAnswer, lerpAnswer, crossAnswer, insideAnswer, windingAnswer, pointInsideAnswer, segmentInsideAnswer};
-use geom::FillRule;
 use geom::P;
-use geom::limits::good_number;
-use geom::limits::good_numbers;
-use geom::limits::good_outline;
-use geom::limits::good_point;
-use geom::limits::good_step;
-use geom::limits::good_turn;
 use leaves::checked::Leaf;
+use limits::good_number;
+use limits::good_numbers;
+use limits::good_outline;
+use limits::good_point;
+use limits::good_step;
+use limits::good_turn;
+use outlines::FillRule;
 use refusal::LAYOUT;
 use refusal::NUMBER;
 use refusal::SETTING;
@@ -143,7 +143,7 @@ pub fn winding(corners: &[f64], ends: &[usize], p: P) -> Wound
     if !good_point(p) {
         return Wound::Refused(NUMBER);
     }
-    Wound::Times(geom::winding::winding(corners, ends, p))
+    Wound::Times(outlines::winding::winding(corners, ends, p))
 }
 
 pub fn point_inside(corners: &[f64], ends: &[usize], rule: FillRule, p: P) -> Truth
@@ -158,7 +158,7 @@ pub fn point_inside(corners: &[f64], ends: &[usize], rule: FillRule, p: P) -> Tr
     if !good_point(p) {
         return Truth::Refused(NUMBER);
     }
-    Truth::Is(geom::inside::point_inside(corners, ends, rule, p))
+    Truth::Is(outlines::inside::point_inside(corners, ends, rule, p))
 }
 
 pub fn segment_inside(
@@ -186,5 +186,5 @@ pub fn segment_inside(
     if !good_step(step) {
         return Truth::Refused(SETTING);
     }
-    Truth::Is(geom::inside::segment_inside(corners, ends, rule, a, b, step))
+    Truth::Is(outlines::inside::segment_inside(corners, ends, rule, a, b, step))
 }

@@ -3,10 +3,10 @@ ghost use mathlib.Core.Path.{_≡_};
 ghost use lib.ListN.{length};
 ghost use Rattle.leaves.specs.Answer.{said};
 ghost use Rattle.geometry.specs.LineAnswers.{polylineLengthAnswer, resampleSewn, resampleOutput};
-use geom::limits::good_len;
-use geom::limits::good_line;
-use geom::limits::good_numbers;
 use leaves::checked::Leaf;
+use limits::good_len;
+use limits::good_line;
+use limits::good_numbers;
 use refusal::LAYOUT;
 use refusal::NUMBER;
 use refusal::SETTING;
@@ -21,7 +21,7 @@ pub fn polyline_length(line: &[f64]) -> Leaf
     if !good_numbers(line) {
         return Leaf::Refused(NUMBER);
     }
-    Leaf::Value(geom::line::polyline_length(line))
+    Leaf::Value(polyline::polyline_length(line))
 }
 
 pub fn resample_keep_corners(line: &[f64], len: f64, out: &mut [f64]) -> Sewn
@@ -45,5 +45,5 @@ pub fn resample_keep_corners(line: &[f64], len: f64, out: &mut [f64]) -> Sewn
             points: 0,
         };
     }
-    geom::line::resample_keep_corners(line, len, out)
+    polyline::resample_keep_corners(line, len, out)
 }

@@ -6,9 +6,9 @@ use lib.Dec.{leb, eqb}
 use lib.ListN.{length, getD, take, drop}
 use lib.Ieee.{Float, binary64, ofBits}
 use Rattle.refusal.specs.Refusal.{LAYOUT, ROOM}
-use Rattle.geom.specs.Limits.{mostCorners}
-use Rattle.geom.specs.declared.rule.FillRule.{FillRule}
-use Rattle.geom.specs.declared.rule.FillRule.the-variants.{NonZero, EvenOdd}
+use Rattle.limits.specs.Limits.{mostCorners}
+use Rattle.outlines.specs.declared.rule.FillRule.{FillRule}
+use Rattle.outlines.specs.declared.rule.FillRule.the-variants.{NonZero, EvenOdd}
 use Rattle.rules.specs.declared.Settings.{Settings}
 use Rattle.jobs.specs.declared.frame.Framing.{Framing}
 use Rattle.jobs.specs.declared.frame.Framing.the-variants.{Corners, Badly}

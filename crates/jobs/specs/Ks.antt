@@ -6,7 +6,7 @@ use mathlib.Core.List.{List, [], _∷_, _++_}
 use lib.ListN.{length, replicate}
 use lib.Ieee.{Float, round, ofBits}
 use Rattle.numbers.specs.Num.{literal}
-use Rattle.geom.specs.declared.rule.FillRule.the-variants.{NonZero}
+use Rattle.outlines.specs.declared.rule.FillRule.the-variants.{NonZero}
 use Rattle.jobs.specs.declared.job.Parsed.the-variants.{Done}
 use Rattle.jobs.specs.Job.{value, number, float, floats, goodHead, ruleOf, settingsOf, count, behind, counted, endsFrom, cornersFrom, jobOf, corners, ends, decoded}
 

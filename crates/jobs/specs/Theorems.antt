@@ -12,7 +12,7 @@ use lib.ListN.{length, drop}
 use borrow.Author.Tests.{le-leb, eq-eqb, leb-true, leb-false, ltb-true, ltb-false}
 use Rattle.seqs.specs.Tests.{either}
 use Rattle.geom.specs.Outline.{rising}
-use Rattle.geom.specs.Limits.{goodOutline}
+use Rattle.limits.specs.Limits.{goodOutline}
 use Rattle.jobs.specs.declared.frame.Framing.{Framing}
 use Rattle.jobs.specs.declared.frame.Framing.the-variants.{Corners, Badly}
 use Rattle.jobs.specs.declared.job.Job.{Job}

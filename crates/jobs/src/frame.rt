@@ -5,7 +5,7 @@ ghost use lib.ListN.{length, drop};
 ghost use Rattle.jobs.specs.Job.{head, goodHead, counted};
 use crate::number::count_at;
 use crate::number::number_at;
-use geom::limits::MOST_CORNERS;
+use limits::MOST_CORNERS;
 
 // The bytes before the rings.
 pub const HEAD: usize = 60;

@@ -10,7 +10,7 @@ use crate::number::float_at;
 use crate::number::number_at;
 use crate::rings::write_corners;
 use crate::rings::write_ends;
-use geom::FillRule;
+use outlines::FillRule;
 use refusal::LAYOUT;
 use refusal::ROOM;
 use rules::Settings;

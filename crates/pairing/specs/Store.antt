@@ -8,7 +8,7 @@ use lib.Ieee.{Float}
 use Rattle.geom.specs.declared.point.P.{P}
 use Rattle.geom.specs.Outline.{points}
 use Rattle.geom.specs.Sewing.{flat}
-use Rattle.geom.specs.Limits.{goodNumbers}
+use Rattle.limits.specs.Limits.{goodNumbers}
 use Rattle.satinrules.specs.Arc.{lengths}
 use Rattle.satinrules.specs.Pairs.{pairAt}
 use Rattle.satinrules.specs.Calls.{railsOf, bothPoints}

@@ -9,7 +9,7 @@ use lib.Ieee.{Float, lt}
 use Rattle.numbers.specs.Num.{_⊖_, _⊘_, real, zero64}
 use Rattle.geom.specs.declared.point.P.{P}
 use Rattle.geom.specs.Outline.{points}
-use Rattle.geom.specs.Line.{shortest}
+use Rattle.polyline.specs.Line.{shortest}
 use Rattle.satinrules.specs.Pairs.{origin, kept, centre, totalOf, countOf, inWindow, windows}
 use Rattle.pairing.specs.declared.places.Pass.{Pass}
 use Rattle.pairing.specs.declared.places.Walk.{Walk}

@@ -14,7 +14,7 @@ use Rattle.seqs.specs.Tests.{and-both, clash, either}
 use Rattle.geom.specs.declared.point.P.{P}
 use Rattle.geom.specs.Outline.{points}
 use Rattle.geom.specs.OutlineLaws.{cornerAt, points-next, points-end}
-use Rattle.geom.specs.Line.{shortest}
+use Rattle.polyline.specs.Line.{shortest}
 use Rattle.satinrules.specs.Pairs.{origin, grows, kept, centre, centresFrom, totalOf, placeAt, inWindow, windows, places}
 use Rattle.pairing.specs.declared.places.Pass.{Pass}
 use Rattle.pairing.specs.declared.places.Walk.{Walk}

@@ -8,11 +8,11 @@ use mathlib.Core.List.{List}
 use lib.ListN.{length}
 use lib.Ieee.{Float}
 use Rattle.geom.specs.declared.point.P.{P}
-use Rattle.geom.specs.declared.rule.FillRule.{FillRule}
+use Rattle.outlines.specs.declared.rule.FillRule.{FillRule}
 use Rattle.rules.specs.Calls.{sewnPoints}
 use Rattle.geom.specs.Outline.{points, rings, Layout}
-use Rattle.geom.specs.Limits.{mostCells, goodOutline}
-use Rattle.geom.specs.LimitsLaws.{outline-layout}
+use Rattle.limits.specs.Limits.{mostCells, goodOutline}
+use Rattle.limits.specs.LimitsLaws.{outline-layout}
 use Rattle.patterns_rules.specs.declared.Grid.{Grid}
 use Rattle.patterns_rules.specs.Patterns.{gridIn, gridOf, bounds, stitched}
 use Rattle.patterns_rules.specs.Answers.{goodGrid}

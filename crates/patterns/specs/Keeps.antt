@@ -18,8 +18,8 @@ use Rattle.seqs.specs.Lists.{fold, All}
 use Rattle.seqs.specs.Tests.{and-both}
 use Rattle.geom.specs.declared.point.P.{P}
 use Rattle.geom.specs.Outline.{points, rings}
-use Rattle.geom.specs.Limits.{largest, within, goodNumber, goodNumbers, goodCell, goodOutline}
-use Rattle.geom.specs.LimitsLaws.{outline-layout}
+use Rattle.limits.specs.Limits.{largest, within, goodNumber, goodNumbers, goodCell, goodOutline}
+use Rattle.limits.specs.LimitsLaws.{outline-layout}
 use Rattle.patterns_rules.specs.declared.Bounds.{Bounds}
 use Rattle.patterns_rules.specs.Patterns.{nowhere, widen, bounds, firstCell, pastCell}
 use Rattle.cross.specs.Cells.{boundsOf}

@@ -7,7 +7,7 @@ ghost use Rattle.patterns_rules.specs.Answers.{roomFor, saidLines, leftPoints, 
 ghost use Rattle.cross.specs.Cells.{Laid};
 use cross::count;
 use cross::write;
-use geom::FillRule;
+use outlines::FillRule;
 use patterns_rules::Grid;
 use patterns_rules::Lines;
 use refusal::DONE;

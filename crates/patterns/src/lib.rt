@@ -8,11 +8,11 @@ mod badge;
 
 use badge::on_grid;
 use cross::grid_of;
-use geom::FillRule;
-use geom::limits::good_cell;
-use geom::limits::good_line;
-use geom::limits::good_numbers;
-use geom::limits::good_outline;
+use limits::good_cell;
+use limits::good_line;
+use limits::good_numbers;
+use limits::good_outline;
+use outlines::FillRule;
 use patterns_rules::Bounds;
 use patterns_rules::Lines;
 use patterns_rules::MOST_CELLS;

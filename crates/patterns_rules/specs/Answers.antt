@@ -8,9 +8,9 @@ use lib.Ieee.{Float}
 use Rattle.refusal.specs.Refusal.{DONE, LAYOUT, NUMBER, SETTING, SIZE, ROOM, Answer, unless, _then_, answer}
 use Rattle.refusal.specs.Sewn.{output}
 use Rattle.geom.specs.declared.point.P.{P}
-use Rattle.geom.specs.declared.rule.FillRule.{FillRule}
+use Rattle.outlines.specs.declared.rule.FillRule.{FillRule}
 use Rattle.geom.specs.Outline.{points, rings}
-use Rattle.geom.specs.Limits.{mostCells, goodNumbers, goodOutline, goodLine, goodCell}
+use Rattle.limits.specs.Limits.{mostCells, goodNumbers, goodOutline, goodLine, goodCell}
 use Rattle.geom.specs.Sewing.{flat}
 use Rattle.geometry.specs.Answers.{outline}
 use Rattle.rules.specs.Calls.{sewnPoints, sewnEnds}

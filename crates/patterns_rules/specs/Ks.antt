@@ -9,11 +9,11 @@ use Rattle.numbers.specs.Order.{negative, finite, before, smaller, larger}
 use Rattle.numbers.specs.Whole.{wholeOf, floor, ceil}
 use Rattle.numbers.specs.Root.{isqrt, nearRoot, rootUnits, root}
 use Rattle.geom.specs.declared.point.P.{P}
-use Rattle.geom.specs.declared.rule.FillRule.the-variants.{NonZero}
+use Rattle.outlines.specs.declared.rule.FillRule.the-variants.{NonZero}
 use Rattle.geom.specs.Point.{point, len, dist, lerp}
 use Rattle.geom.specs.Steps.{steps, along}
-use Rattle.geom.specs.Winding.{edge, edges, ring, winding}
-use Rattle.geom.specs.Inside.{inside, pointInside, stepsInside, segmentInside}
+use Rattle.outlines.specs.Winding.{edge, edges, ring, winding}
+use Rattle.outlines.specs.Inside.{inside, pointInside, stepsInside, segmentInside}
 use Rattle.patterns_rules.specs.Patterns.{bounds, pieceInside, closed, opened, runsFrom, clipInside, upTo, firstCell, pastCell, gridIn, gridOf, xAt, yAt, cellInside, joined, runs, outOver, backOver, outAndBack, rowRuns, rowLines, stitched, crossStitch}
 
 abbrev pt : ℕ → ℕ → P

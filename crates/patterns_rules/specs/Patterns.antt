@@ -12,9 +12,9 @@ use Rattle.numbers.specs.Order.{finite, smaller, larger}
 use Rattle.numbers.specs.Whole.{floor, ceil}
 use Rattle.seqs.specs.Lists.{upto, sift, each, fold}
 use Rattle.geom.specs.declared.point.P.{P}
-use Rattle.geom.specs.declared.rule.FillRule.{FillRule}
+use Rattle.outlines.specs.declared.rule.FillRule.{FillRule}
 use Rattle.geom.specs.Point.{point}
-use Rattle.geom.specs.Inside.{pointInside, segmentInside}
+use Rattle.outlines.specs.Inside.{pointInside, segmentInside}
 use Rattle.patterns_rules.specs.declared.Bounds.{Bounds}
 use Rattle.patterns_rules.specs.declared.Grid.{Grid}
 use Rattle.patterns_rules.specs.declared.Run.{Run}

@@ -18,11 +18,10 @@ use Rattle.seqs.specs.All.{all-take}
 use Rattle.seqs.specs.Tests.{and-both}
 use Rattle.geom.specs.declared.point.P.{P}
 use Rattle.geom.specs.Outline.{points, cut, rings}
-use Rattle.geom.specs.Limits.{largest, within, goodNumber, goodNumbers, goodOutline, goodSpacing, goodLen, goodInset, goodTurn}
+use Rattle.limits.specs.Limits.{largest, within, goodNumber, goodNumbers, goodOutline, goodSpacing, goodLen, goodInset, goodTurn}
 use Rattle.rules.specs.Alls.{all-drop}
 use Rattle.rules.specs.declared.Settings.{Settings}
-use Rattle.rules.specs.Fill.{edges, rowNumbers}
-use Rattle.rules.specs.Calls.{goodSettings, gate}
+use Rattle.rules.specs.Fill.{edges, rowNumbers, goodSettings, gate}
 
 -- not one of the table's 1 to 5
 abbrev pub Accepted : List Float → List ℕ → Settings → ℕ → Type 0

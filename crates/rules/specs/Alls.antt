@@ -1,10 +1,10 @@
--- Of all the elements of a list that is dropped from, made from parts, mapped or read; and of lists that are mapped. Assumes nothing.
+-- Of all the elements of a list that is dropped from, made from parts, mapped or read; and of lists that are mapped, sorted ones too. Assumes nothing.
 use mathlib.Core.Path.{_≡_, refl, ap, _∙_}
-use mathlib.Core.List.{List, [], _∷_, _++_, map, reverse, reverse-cons, Permᴰ·symm, Permᴰ·reverse}
+use mathlib.Core.List.{List, [], _∷_, _++_, map, reverse, reverse-cons, Permᴰ·symm, Permᴰ·reverse, map-append}
 use Prim.Native.Nat.{ℕ, zero, suc}
 use lib.ListN.{drop, getD}
-use Rattle.seqs.specs.Lists.{each, All}
-use Rattle.seqs.specs.All.{all-append, all-perm}
+use Rattle.seqs.specs.Lists.{each, All, Sorted}
+use Rattle.seqs.specs.All.{all-map, all-append, all-perm}
 
 module _ {A : Type 0} where
   pub all-drop : (Q : A → Type 0) (n : ℕ) (l : List A) → All Q l → All Q (drop n l)
@@ -38,11 +38,16 @@ module _ {A : Type 0} where
     all-parts f h [] k = tt
     all-parts f h (a ∷ l) k = all-append R (f a) (each f l) (h a (k .0)) (all-parts f h l (k .1))
 
-module _ {A B : Type 0} (f : A → B) where
-  pub map-append : (l m : List A) → map f (l ++ m) ≡ map f l ++ map f m
-  map-append [] m = refl
-  map-append (a ∷ l) m = ap (λ r. f a ∷ r) (map-append l m)
+  -- every two, with what holds of each
+  pub sorted-both : (Q : A → Type 0) (R : A → A → Type 0) (l : List A) → All Q l → Sorted R l → Sorted (λ a b. Q a × Q b × R a b) l
+  sorted-both Q R [] h k = tt
+  sorted-both Q R (a ∷ l) h k = (all-map (λ b w. (h .0, w .0, w .1)) l (all-both Q (R a) l (h .1) (k .0)), sorted-both Q R l (h .1) (k .1))
 
+  pub sorted-mapped : {B : Type 0} (R : A → A → Type 0) (S : B → B → Type 0) (f : A → B) → ((a b : A) → R a b → S (f a) (f b)) → (l : List A) → Sorted R l → Sorted S (map f l)
+  sorted-mapped R S f h [] k = tt
+  sorted-mapped R S f h (a ∷ l) k = (all-mapped (R a) (S (f a)) f (h a) l (k .0), sorted-mapped R S f h l (k .1))
+
+module _ {A B : Type 0} (f : A → B) where
   pub map-reverse : (l : List A) → map f (reverse l) ≡ reverse (map f l)
   map-reverse [] = refl
-  map-reverse (a ∷ l) = rw (reverse-cons a l, reverse-cons (f a) (map f l)) (map-append (reverse l) (a ∷ []) ∙ ap (λ r. r ++ (f a ∷ [])) (map-reverse l))
+  map-reverse (a ∷ l) = rw (reverse-cons a l, reverse-cons (f a) (map f l)) (map-append f (reverse l) (a ∷ []) ∙ ap (λ r. r ++ (f a ∷ [])) (map-reverse l))

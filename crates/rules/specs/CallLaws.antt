@@ -9,10 +9,9 @@ use lib.ListN.{length}
 use lib.Ieee.{Float}
 use Rattle.refusal.specs.Refusal.{DONE, LAYOUT, NUMBER, SETTING, TURN, SIZE}
 use Rattle.geom.specs.Outline.{rings}
-use Rattle.geom.specs.Limits.{goodOutline, goodNumbers, goodTurn}
+use Rattle.limits.specs.Limits.{goodOutline, goodNumbers, goodTurn}
 use Rattle.rules.specs.declared.Settings.{Settings}
-use Rattle.rules.specs.Fill.{edges, rowNumbers}
-use Rattle.rules.specs.Calls.{goodSettings, gate}
+use Rattle.rules.specs.Fill.{edges, rowNumbers, goodSettings, gate}
 
 chain : Bool → Bool → Bool → Bool → Bool → ℕ → ℕ
 chain a b c d e rest = cond (not a) LAYOUT (cond (not b) NUMBER (cond (not c) SETTING (cond (not d) TURN (cond e SIZE rest))))

@@ -1,53 +1,19 @@
--- The two calls of a fill: who is turned away, in the order of document 01's table, and what a call leaves in each slice. Definitions only.
+-- The two calls of a fill: what a call answers and leaves in each slice, by Fill's refusal. Definitions only.
 use Prim.Native.Nat.{ℕ, _+_, _*_}
-use mathlib.Core.Bool.{Bool, not, _&&_, _||_, cond}
+use mathlib.Core.Bool.{Bool, _&&_, cond}
 use mathlib.Core.List.{List, [], _∷_, _++_, map}
-use lib.Dec.{leb, ltb, eqb}
+use lib.Dec.{leb, eqb}
 use lib.IntN.{ℤ}
 use lib.ListN.{length, drop, replicate}
 use lib.Ieee.{Float}
-use Rattle.refusal.specs.Refusal.{DONE, LAYOUT, NUMBER, SETTING, TURN, SIZE, WORK, ROOM}
+use Rattle.refusal.specs.Refusal.{DONE}
 use Rattle.seqs.specs.Lists.{each}
 use Rattle.geom.specs.declared.point.P.{P}
 use Rattle.geom.specs.Outline.{rings}
-use Rattle.geom.specs.Limits.{goodOutline, goodNumbers, goodSpacing, goodLen, goodInset, goodStagger, goodTurn}
-use Rattle.geom.specs.declared.rule.FillRule.{FillRule}
+use Rattle.outlines.specs.declared.rule.FillRule.{FillRule}
 use Rattle.rules.specs.declared.Settings.{Settings}
 use Rattle.rules.specs.declared.Entry.{Entry}
-use Rattle.rules.specs.Fill.{edges, rowNumbers, rowList, tatami}
-
--- ---- who is turned away
-
--- spacing 0.5 to 1,000; len 1 to 1,000; inset and pull -100 to 100; stagger 0 to 1,000
-unfoldable pub goodSettings : Settings → ℕ → Bool
-goodSettings g stagger = goodSpacing (g .spacing) && goodLen (g .len) && goodInset (g .inset) && goodInset (g .pull) && goodStagger stagger
-
--- the first of the table's 1 to 5 that applies, and where none does `rest`: these look at no slice but the outline
-unfoldable pub gate : List Float → List ℕ → Settings → ℕ → ℕ → ℕ
-gate corners ends g stagger rest =
-    cond (not (goodOutline corners ends)) LAYOUT
-    (cond (not (goodNumbers corners)) NUMBER
-    (cond (not (goodSettings g stagger)) SETTING
-    (cond (not (goodTurn (g .cosine) (g .sine))) TURN
-    (cond (ltb 4096 (length (rowNumbers g (edges g (rings corners ends))))) SIZE rest))))
-
--- the need of a fill with E kept edges and I kept pieces: 6E + 4I floats and 4E + 6I whole numbers
-abbrev pub needFloats : ℕ → ℕ → ℕ
-needFloats e i = 6 * e + 4 * i
-
-abbrev pub needWholes : ℕ → ℕ → ℕ
-needWholes e i = 4 * e + 6 * i
-
--- WORK and ROOM, where 1 to 5 don't apply: for working slices of `floats` and `wholes`, and an output that `fits` its slices or not
-unfoldable pub roomed : List Float → List ℕ → FillRule → Settings → Bool → ℕ → ℕ → Bool → ℕ
-roomed corners ends rule g bottomUp floats wholes fits =
-    let e = length (edges g (rings corners ends)) in
-    let i = length (rowList (rings corners ends) rule g bottomUp) in
-    cond (ltb floats (needFloats e i) || ltb wholes (needWholes e i)) WORK (cond (not fits) ROOM DONE)
-
--- the first of the table that applies
-unfoldable pub refusal : List Float → List ℕ → FillRule → Settings → ℕ → Bool → ℕ → ℕ → Bool → ℕ
-refusal corners ends rule g stagger bottomUp floats wholes fits = gate corners ends g stagger (roomed corners ends rule g bottomUp floats wholes fits)
+use Rattle.rules.specs.Fill.{rowList, tatami, refusal}
 
 -- ---- what a call leaves, by its answer n
 

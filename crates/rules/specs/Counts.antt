@@ -1,8 +1,8 @@
--- How many edges and pieces a fill can have: no more edges than corners, and no more pieces in a row than edges. Assumes nothing.
+-- How many edges and pieces a fill can have: no more edges than corners, and in a row no more pieces than half the edges. Assumes nothing.
 use mathlib.Core.Path.{_≡_, refl, sym, ap, _∙_}
 use mathlib.Core.Bool.{Bool, true, false, not, _&&_, cond}
 use mathlib.Core.List.{List, [], _∷_, map, Permᴰ·reverse}
-use Prim.Native.Nat.{ℕ, suc, _+_, _-_, _*_, _/_, _%_, _≤_, suc-le-suc}
+use Prim.Native.Nat.{ℕ, suc, _+_, _-_, _*_, _/_, _%_, _≤_}
 use native.Mathlib.Nat.{le-trans, le-of-eq}
 use native.Mathlib.Omega.{arith}
 use lib.Dec.{leb, eqb}
@@ -18,12 +18,13 @@ use Rattle.seqs.specs.Sift.{sift-length}
 use Rattle.seqs.specs.Sort.{sort-perm, perm-length}
 use Rattle.seqs.specs.Upto.{upto-length}
 use Rattle.geom.specs.declared.point.P.{P}
-use Rattle.geom.specs.declared.rule.FillRule.{FillRule}
+use Rattle.outlines.specs.declared.rule.FillRule.{FillRule}
+use Rattle.outlines.specs.declared.rule.FillRule.the-variants.{NonZero, EvenOdd}
 use Rattle.geom.specs.Point.{rotate}
 use Rattle.geom.specs.Outline.{points, cut, rings, rising}
 use Rattle.geom.specs.OutlineLaws.{points-length, rising-le}
-use Rattle.geom.specs.Inside.{inside}
-use Rattle.geom.specs.Limits.{goodOutline}
+use Rattle.outlines.specs.Inside.{inside}
+use Rattle.limits.specs.Limits.{goodOutline}
 use Rattle.rules.specs.declared.Settings.{Settings}
 use Rattle.rules.specs.declared.Edge.{Edge}
 use Rattle.rules.specs.FillSections.{pieces-of-rows}
@@ -79,31 +80,52 @@ cut-total a (e ∷ es) l h =
     let b = and-both (leb a e) (rising e es (length l)) h in
     omega (arith, leb-true a e (b .0), rising-le e es (length l) (b .1), length-take (e - a) (drop a l), cut-total e es l (b .1))
 
+-- no more edges than corners
+pub edges-of-corners : (corners : List Float) (ends : List ℕ) (g : Settings) → goodOutline corners ends ≡ true → length (edges g (rings corners ends)) ≤ length corners / 2
+unfolding edges rings goodOutline
+edges-of-corners corners ends g h =
+    let one = and-both (eqb (length corners % 2) 0 && leb (length ends) 255 && leb (length corners / 2) 1024) (rising 0 ends (length corners / 2)) h in
+    let n = points-length corners in
+    omega (arith, each-most (λ ring. each keptSide (sides (turned g ring))) length (ring-edges g) (cut 0 ends (points corners)), cut-total 0 ends (points corners) (rw n (one .1)), n)
+
 -- at most 1,024 edges
 pub edges-few : (corners : List Float) (ends : List ℕ) (g : Settings) → goodOutline corners ends ≡ true → length (edges g (rings corners ends)) ≤ 1024
-unfolding edges rings goodOutline
+unfolding goodOutline
 edges-few corners ends g h =
     let one = and-both (eqb (length corners % 2) 0 && leb (length ends) 255 && leb (length corners / 2) 1024) (rising 0 ends (length corners / 2)) h in
     let two = and-both (eqb (length corners % 2) 0 && leb (length ends) 255) (leb (length corners / 2) 1024) (one .0) in
-    let n = points-length corners in
-    omega (arith, each-most (λ ring. each keptSide (sides (turned g ring))) length (ring-edges g) (cut 0 ends (points corners)), cut-total 0 ends (points corners) (rw n (one .1)), leb-true (length corners / 2) 1024 (two .1), n)
+    omega (arith, edges-of-corners corners ends g h, leb-true (length corners / 2) 1024 (two .1))
 
 -- ---- pieces
 
-spans-length : (rule : FillRule) (w : ℤ) (start : Float) (cs : List (Float × ℤ)) → length (spans rule w start cs) ≤ length cs
-unfolding spans
-spans-length rule w start [] = omega arith
-spans-length rule w start (c ∷ cs) =
-    let next = cond (not (inside rule w) && inside rule (w +ℤ c .1)) (c .0) start in
-    le-trans (keep (inside rule w && not (inside rule (w +ℤ c .1))) (spans rule (w +ℤ c .1) next cs)) (suc-le-suc (spans-length rule (w +ℤ c .1) next cs))
-  where
-    keep : (b : Bool) (l : List (Float × Float)) → length (keepIf b (start, c .0) l) ≤ suc (length l)
-    keep true l = omega arith
-    keep false l = omega arith
+-- what has been entered and not been left
+entered : Bool → ℕ
+entered true = 1
+entered false = 0
 
-pub row-few : (rule : FillRule) (g : Settings) (es : List Edge) (k : ℤ) → length (piecesOf rule g es k) ≤ length es
+-- a span ends where one began: two crossings each
+spans-half : (rule : FillRule) (w : ℤ) (start : Float) (cs : List (Float × ℤ)) → 2 * length (spans rule w start cs) ≤ length cs + entered (inside rule w)
+unfolding spans entered
+spans-half rule w start [] = omega arith
+spans-half rule w start (c ∷ cs) =
+    let next = cond (not (inside rule w) && inside rule (w +ℤ c .1)) (c .0) start in
+    go (inside rule w) (inside rule (w +ℤ c .1)) (spans rule (w +ℤ c .1) next cs) (spans-half rule (w +ℤ c .1) next cs)
+  where
+    go : (was now : Bool) (l : List (Float × Float)) → 2 * length l ≤ length cs + entered now → 2 * length (keepIf (was && not now) (start, c .0) l) ≤ suc (length cs) + entered was
+    go true true l h = omega (arith, h)
+    go true false l h = omega (arith, h)
+    go false true l h = omega (arith, h)
+    go false false l h = omega (arith, h)
+
+outside-first : (rule : FillRule) → entered (inside rule (pos 0)) ≡ 0
+unfolding entered inside
+outside-first NonZero = refl
+outside-first EvenOdd = refl
+
+-- in a row at most half as many pieces as edges
+pub row-half : (rule : FillRule) (g : Settings) (es : List Edge) (k : ℤ) → length (piecesOf rule g es k) ≤ length es / 2
 unfolding piecesOf piecesAt crossed
-row-few rule g es k =
+row-half rule g es k =
     let y = rowAt g k in
     let test : ℕ → Bool = λ i. starts es y i && lives es y i in
     let l = sift test (upto 0 (length es)) in
@@ -114,7 +136,8 @@ row-few rule g es k =
       arith,
       sift-length (wide g) (map (pieceOf g k) ab),
       length-map ab (pieceOf g k),
-      spans-length rule (pos 0) zero64 cs,
+      spans-half rule (pos 0) zero64 cs,
+      outside-first rule,
       length-map places (crossing es y),
       perm-length (sort-perm (byX es y) l),
       sift-length test (upto 0 (length es)),
@@ -126,10 +149,10 @@ unfolding met
 met-length true ks = perm-length (Permᴰ·reverse ks)
 met-length false ks = refl
 
--- at most as many pieces as edges, in each row
-pub pieces-few : (outline : List (List P)) (rule : FillRule) (g : Settings) (bottomUp : Bool) → length (rowList outline rule g bottomUp) ≤ length (edges g outline) * length (rowNumbers g (edges g outline))
-pieces-few outline rule g bottomUp =
+-- and so in all rows
+pub pieces-half : (outline : List (List P)) (rule : FillRule) (g : Settings) (bottomUp : Bool) → length (rowList outline rule g bottomUp) ≤ length (edges g outline) / 2 * length (rowNumbers g (edges g outline))
+pieces-half outline rule g bottomUp =
     let es = edges g outline in
     let ks = met bottomUp (rowNumbers g es) in
     le-trans (le-of-eq (sym (length-map (rowList outline rule g bottomUp) (λ e. e .piece)) ∙ ap length (pieces-of-rows outline rule g bottomUp)))
-    (le-trans (each-most (piecesOf rule g es) (λ k. length es) (row-few rule g es) ks) (le-of-eq (total-same (length es) ks ∙ ap (λ n. length es * n) (met-length bottomUp (rowNumbers g es)))))
+    (le-trans (each-most (piecesOf rule g es) (λ k. length es / 2) (row-half rule g es) ks) (le-of-eq (total-same (length es / 2) ks ∙ ap (λ n. length es / 2 * n) (met-length bottomUp (rowNumbers g es)))))

@@ -27,7 +27,7 @@ use Rattle.numbers.specs.Bounds.{within-round}
 use Rattle.seqs.specs.Lists.{each, All}
 use Rattle.geom.specs.declared.point.P.{P}
 use Rattle.geom.specs.Point.{rotate}
-use Rattle.geom.specs.Limits.{largest}
+use Rattle.limits.specs.Limits.{largest}
 use Rattle.rules.specs.declared.Settings.{Settings}
 use Rattle.rules.specs.declared.Edge.{Edge}
 use Rattle.rules.specs.Fill.{sidesTo, sides, edgeOf, keptSide, turned, edges}

@@ -1,30 +1,32 @@
--- The fill, in the words of document 01 and the source's fill.rs: edges, rows, pieces, sections and stitches.
+-- The fill, in the words of document 01 and the source's fill.rs: edges, rows, pieces, sections, stitches, refusals and need.
 -- Floats are f64, each operation rounded once, in the order the source writes them. Definitions only.
-use Prim.Native.Nat.{ℕ, _+_, _-_, _%_, _^_}
-use mathlib.Core.Bool.{Bool, true, false, not, _&&_, cond}
+use Prim.Native.Nat.{ℕ, _+_, _*_, _-_, _%_, _^_}
+use mathlib.Core.Bool.{Bool, true, false, not, _&&_, _||_, cond}
 use mathlib.Core.List.{List, [], _∷_, _++_, map, reverse}
 use mathlib.Core.Option.{Option, none, some}
-use lib.Dec.{eqb}
+use lib.Dec.{eqb, ltb}
 use lib.IntN.{ℤ, pos, negsuc, natAbs, _+ℤ_, _-ℤ_}
 use lib.Signed.{leZ}
 use lib.ListN.{length, getD}
 use lib.Ieee.{Float, inf, neg, lt, le, toSigned, toUnsigned}
+use Rattle.refusal.specs.Refusal.{DONE, LAYOUT, NUMBER, SETTING, TURN, SIZE, WORK, ROOM}
 use Rattle.numbers.specs.Num.{_⊕_, _⊖_, _⊗_, _⊘_, real, literal, zero64, half}
 use Rattle.numbers.specs.Order.{before, smaller, larger, magnitude}
 use Rattle.numbers.specs.Whole.{floor, ceil}
 use Rattle.seqs.specs.Lists.{upto, keepIf, sift, each, fold, sortBy, byKey}
 use Rattle.geom.specs.declared.point.P.{P}
 use Rattle.geom.specs.Point.{point, rotate, dist}
-use Rattle.geom.specs.declared.rule.FillRule.{FillRule}
+use Rattle.outlines.specs.declared.rule.FillRule.{FillRule}
+use Rattle.geom.specs.Outline.{rings}
+use Rattle.limits.specs.Limits.{goodOutline, goodNumbers, goodSpacing, goodLen, goodInset, goodStagger, goodTurn}
 use Rattle.geom.specs.Steps.{along}
-use Rattle.geom.specs.Inside.{inside, pointInside}
+use Rattle.outlines.specs.Inside.{inside, pointInside}
 use Rattle.rules.specs.declared.Settings.{Settings}
 use Rattle.rules.specs.declared.Edge.{Edge}
 use Rattle.rules.specs.declared.Piece.{Piece}
 use Rattle.rules.specs.declared.Entry.{Entry}
 
 -- ---- edges
-
 -- the sides of a ring: side i from corner i to corner i + 1, the last back to the first, z
 unfoldable pub sidesTo : P → List P → List (P × P)
 sidesTo z [] = []
@@ -57,7 +59,6 @@ unfoldable pub edges : Settings → List (List P) → List Edge
 edges g rings = each (λ ring. each keptSide (sides (turned g ring))) rings
 
 -- ---- rows
-
 -- how many whole numbers from lo to hi
 unfoldable pub howMany : ℤ → ℤ → ℕ
 howMany lo hi = cond (leZ lo hi) (natAbs (hi -ℤ lo) + 1) 0
@@ -92,7 +93,6 @@ unfoldable pub rowAt : Settings → ℤ → Float
 rowAt g k = (real k ⊕ half) ⊗ g .spacing
 
 -- ---- one row, taken alone
-
 -- what is read past the last edge
 abbrev pub noEdge : Edge
 noEdge = record { y0 = zero64; y1 = zero64; x0 = zero64; dxdy = zero64; falls = true }
@@ -163,7 +163,6 @@ unfoldable pub piecesOf : FillRule → Settings → List Edge → ℤ → List P
 piecesOf rule g es k = piecesAt rule g es k (crossed es (rowAt g k))
 
 -- ---- sections
-
 -- a piece of the row before and one of this row overlap strictly
 unfoldable pub overlap : Piece → Piece → Bool
 overlap last next = lt (last .xa) (next .xb) && lt (next .xa) (last .xb)
@@ -254,7 +253,6 @@ unfoldable pub sections : List Entry → List (List Entry)
 sections es = map (section es) (upto 0 (begun es))
 
 -- ---- stitches
-
 -- stagger 0 counts as 1
 unfoldable pub cycle : ℕ → ℕ
 cycle stagger = cond (eqb stagger 0) 1 stagger
@@ -316,3 +314,35 @@ sewn g stagger es = map (λ p. rotate p (g .cosine) (g .sine)) (sew g (each (row
 -- tatami: the points of each section of the row list
 unfoldable pub tatami : List (List P) → FillRule → Settings → ℕ → Bool → List (List P)
 tatami rings rule g stagger bottomUp = map (sewn g stagger) (sections (rowList rings rule g bottomUp))
+
+-- ---- who is turned away
+-- spacing 0.5 to 1,000; len 1 to 1,000; inset and pull -100 to 100; stagger 0 to 1,000
+unfoldable pub goodSettings : Settings → ℕ → Bool
+goodSettings g stagger = goodSpacing (g .spacing) && goodLen (g .len) && goodInset (g .inset) && goodInset (g .pull) && goodStagger stagger
+
+-- the first of the table's 1 to 5 that applies, and where none does `rest`: these look at no slice but the outline
+unfoldable pub gate : List Float → List ℕ → Settings → ℕ → ℕ → ℕ
+gate corners ends g stagger rest =
+    cond (not (goodOutline corners ends)) LAYOUT
+    (cond (not (goodNumbers corners)) NUMBER
+    (cond (not (goodSettings g stagger)) SETTING
+    (cond (not (goodTurn (g .cosine) (g .sine))) TURN
+    (cond (ltb 4096 (length (rowNumbers g (edges g (rings corners ends))))) SIZE rest))))
+
+-- the need of a fill with E kept edges and I kept pieces: 6E + 4I floats and 4E + 6I whole numbers
+abbrev pub needFloats : ℕ → ℕ → ℕ
+needFloats e i = 6 * e + 4 * i
+
+abbrev pub needWholes : ℕ → ℕ → ℕ
+needWholes e i = 4 * e + 6 * i
+
+-- WORK and ROOM, where 1 to 5 don't apply: for working slices of `floats` and `wholes`, and an output that `fits` its slices or not
+unfoldable pub roomed : List Float → List ℕ → FillRule → Settings → Bool → ℕ → ℕ → Bool → ℕ
+roomed corners ends rule g bottomUp floats wholes fits =
+    let e = length (edges g (rings corners ends)) in
+    let i = length (rowList (rings corners ends) rule g bottomUp) in
+    cond (ltb floats (needFloats e i) || ltb wholes (needWholes e i)) WORK (cond (not fits) ROOM DONE)
+
+-- the first of the table that applies
+unfoldable pub refusal : List Float → List ℕ → FillRule → Settings → ℕ → Bool → ℕ → ℕ → Bool → ℕ
+refusal corners ends rule g stagger bottomUp floats wholes fits = gate corners ends g stagger (roomed corners ends rule g bottomUp floats wholes fits)

@@ -19,7 +19,7 @@ use Rattle.seqs.specs.Sift.{sift-append, sift-none}
 use Rattle.seqs.specs.Each.{each-map}
 use Rattle.seqs.specs.Upto.{parts-perm, upto-length}
 use Rattle.geom.specs.declared.point.P.{P}
-use Rattle.geom.specs.declared.rule.FillRule.{FillRule}
+use Rattle.outlines.specs.declared.rule.FillRule.{FillRule}
 use Rattle.rules.specs.declared.Settings.{Settings}
 use Rattle.rules.specs.declared.Edge.{Edge}
 use Rattle.rules.specs.declared.Piece.{Piece}

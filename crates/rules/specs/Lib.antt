@@ -12,6 +12,8 @@ pub mod Accepted
 pub mod Edges
 pub mod Rows
 pub mod Pieces
+pub mod Rise
+pub mod RowsRise
 pub mod Stitches
 pub mod Counts
 pub mod Theorems

@@ -18,8 +18,8 @@ use Rattle.seqs.specs.Sift.{sift-pass}
 use Rattle.seqs.specs.Sort.{sort-perm}
 use Rattle.seqs.specs.Upto.{upto-all}
 use Rattle.geom.specs.declared.point.P.{P}
-use Rattle.geom.specs.declared.rule.FillRule.{FillRule}
-use Rattle.geom.specs.Inside.{inside}
+use Rattle.outlines.specs.declared.rule.FillRule.{FillRule}
+use Rattle.outlines.specs.Inside.{inside}
 use Rattle.rules.specs.declared.Settings.{Settings}
 use Rattle.rules.specs.declared.Edge.{Edge}
 use Rattle.rules.specs.declared.Piece.{Piece}
@@ -78,7 +78,7 @@ module _ (outline : List (List P)) (g : Settings) (cyc : ℕ) (ok : Checked outl
   hundred : (x : Float) → Range (real (negsuc 99)) (real (pos 100)) x → Within 7 x
   hundred x r = within-between 7 (real (negsuc 99)) x (real (pos 100)) (r .least) (r .most) (within-real 7 (negsuc 99) (lit≤ tt) (lit≤ tt)) (within-real 7 (pos 100) (lit≤ tt) (lit≤ tt))
 
-  shrink-within : Within 22 (shrink g)
+  pub shrink-within : Within 22 (shrink g)
   unfolding shrink
   shrink-within = within-more 8 22 (g .inset ⊖ g .pull) (lit≤ tt) (within-sub 7 (g .inset) (g .pull) (lit≤ tt) (hundred (g .inset) (ok .inset)) (hundred (g .pull) (ok .pull)))
 
@@ -86,8 +86,15 @@ module _ (outline : List (List P)) (g : Settings) (cyc : ℕ) (ok : Checked outl
   unfolding Within
   zero-within = zero-le
 
+  pub spans-small : (rule : FillRule) (k : ℤ) → Fair k → All (λ ab. Within 22 (ab .0) × Within 22 (ab .1)) (spans rule (pos 0) zero64 (map (crossing (edges g outline) (rowAt g k)) (crossed (edges g outline) (rowAt g k))))
+  unfolding crossing
+  spans-small rule k h =
+      let es = edges g outline in
+      let y = rowAt g k in
+      spans-within 22 rule (pos 0) zero64 (map (crossing es y) (crossed es y)) zero-within (all-mapped (λ i. Within 22 (crossX es y i)) (λ c. Within 22 (c .0)) (crossing es y) (λ i w. w) (crossed es y) (crosses-within k h))
+
   pub row-small : (rule : FillRule) (k : ℤ) → Fair k → All Small (piecesOf rule g (edges g outline) k)
-  unfolding piecesOf piecesAt pieceOf crossing
+  unfolding piecesOf piecesAt pieceOf
   row-small rule k h =
       let es = edges g outline in
       let y = rowAt g k in
@@ -101,7 +108,7 @@ module _ (outline : List (List P)) (g : Settings) (cyc : ℕ) (ok : Checked outl
         xa = within-add 22 (ab .0) (shrink g) (lit≤ tt) (w .0) shrink-within;
         xb = within-sub 22 (ab .1) (shrink g) (lit≤ tt) (w .1) shrink-within;
       })
-      ab (spans-within 22 rule (pos 0) zero64 cs zero-within (all-mapped (λ i. Within 22 (crossX es y i)) (λ c. Within 22 (c .0)) (crossing es y) (λ i w. w) (crossed es y) (crosses-within k h))))
+      ab (spans-small rule k h))
 
   met-fair : (b : Bool) → All Fair (met b (rowNumbers g (edges g outline)))
   unfolding met

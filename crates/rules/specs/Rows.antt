@@ -1,7 +1,7 @@
 -- The rows of an accepted fill: their numbers are small, `k_lo` and `k_hi` lose nothing as i64, no row stands above the one before it, and a row's crossings have one order.
 -- Assumes nothing.
 use mathlib.Core.Path.{_≡_, refl, ap, subst}
-use mathlib.Core.Bool.{Bool, true, false, not, cond}
+use mathlib.Core.Bool.{Bool, true, false, not, _&&_, cond}
 use mathlib.Core.List.{List, [], _∷_, map}
 use mathlib.Core.Logic.{⊎-elim}
 use Prim.Native.Nat.{ℕ, zero, suc, _+_, _^_, _≤_, _<_, zero-le}
@@ -20,7 +20,7 @@ use Rattle.numbers.specs.Order.{before, smaller, larger}
 use Rattle.numbers.specs.Whole.{floor, ceil}
 use Rattle.numbers.specs.Value.{Within, AtLeast, IsWhole}
 use Rattle.numbers.specs.Laws.{le-refl, lt-le, before-asym, before-trans, before-total, not-before-le, smaller-has, larger-has, real-mono, add-mono, mul-mono, within-finite, within-more, within-between, within-add, within-sub, within-mul, within-div, within-real, atleast-le, atleast-above, ceil-signed, floor-signed, holds}
-use Rattle.seqs.specs.Lists.{fold, upto, byKey, sortBy, All, Strict, Keyed}
+use Rattle.seqs.specs.Lists.{fold, sift, upto, byKey, sortBy, All, Sorted, Strict, Keyed}
 use Rattle.seqs.specs.Tests.{refute, clash}
 use Rattle.seqs.specs.All.{all-map, sorted-map}
 use Rattle.seqs.specs.ByKey.{by-key-strict}
@@ -29,7 +29,7 @@ use Rattle.seqs.specs.Signed.{natAbs-add}
 use Rattle.geom.specs.declared.point.P.{P}
 use Rattle.rules.specs.declared.Settings.{Settings}
 use Rattle.rules.specs.declared.Edge.{Edge}
-use Rattle.rules.specs.Fill.{edges, howMany, through, ymin, ymax, kLo, kHi, rowNumbers, rowAt, noEdge, edge, crossX, byX}
+use Rattle.rules.specs.Fill.{edges, howMany, through, ymin, ymax, kLo, kHi, rowNumbers, rowAt, noEdge, edge, starts, lives, crossX, byX, crossed}
 use Rattle.rules.specs.Sweep.{InOrder, byStart}
 use Rattle.rules.specs.Accepted.{Checked}
 use Rattle.rules.specs.Alls.{all-get}
@@ -171,11 +171,31 @@ module _ (outline : List (List P)) (g : Settings) (cyc : ℕ) (ok : Checked outl
       level = λ i j d e. ⊎-elim (λ h. absurd (subst T d h)) (λ r. ⊎-elim (λ h. absurd (subst T e h)) (λ q. q) r) (before-total (key i) (key j) (fit i) (fit j) (whole i) (whole j));
     }
 
+    ahead : (a b x : Bool) → (a ≡ true → b ≡ true → ⊥) → cond a true (cond b false x) ≡ true → b ≡ true → ⊥
+    ahead true b x f e d = f refl d
+    ahead false true x f e d = clash e refl
+    ahead false false x f e d = clash d refl
+
+    -- and sorted by it they never fall
+    sorted-up : (l : List ℕ) → Sorted (λ i j. T (le (key i) (key j))) (sortBy (byKey before key) l)
+    sorted-up l =
+        let o = by-key-strict before key keyed in
+        sorted-map (λ i j e. not-before-le (key i) (key j) (whole i) (whole j) (λ d. ahead (before (key i) (key j)) (before (key j) (key i)) (leb i j) (λ p q. before-asym (key i) (key j) (holds p) (holds q)) e (is-true (before (key j) (key i)) d)))
+        (sortBy (byKey before key) l) (sort-ordered (byKey before key) (o .total) (o .trans) l)
+
   pub rows-strict : (k : ℤ) → Fair k → Strict (byX (edges g outline) (rowAt g k))
   unfolding byX crossX
   rows-strict k h =
       by-key-strict before (crossX (edges g outline) (rowAt g k))
       (keyed (crossX (edges g outline) (rowAt g k)) (λ i. add-fits binary64 _ _) (λ i. within-number 85 (crossX (edges g outline) (rowAt g k) i) (cross-within k h i)))
+
+  -- they go to the right
+  pub crossings-in-order : (k : ℤ) → Fair k → Sorted (λ i j. T (le (crossX (edges g outline) (rowAt g k) i) (crossX (edges g outline) (rowAt g k) j))) (crossed (edges g outline) (rowAt g k))
+  unfolding crossed byX crossX
+  crossings-in-order k h =
+      let es = edges g outline in
+      let y = rowAt g k in
+      sorted-up (crossX es y) (λ i. add-fits binary64 _ _) (λ i. within-number 85 (crossX es y i) (cross-within k h i)) (sift (λ i. starts es y i && lives es y i) (upto 0 (length es)))
 
   -- ---- the order in which the sweep takes up the edges
 
@@ -186,17 +206,11 @@ module _ (outline : List (List P)) (g : Settings) (cyc : ℕ) (ok : Checked outl
   start-fits : (i : ℕ) → T (fits binary64 (edge (edges g outline) i .y0))
   start-fits i = all-get (λ e. T (fits binary64 (e .y0))) noEdge (unfold fits in tt) (edges g outline) (all-map (λ e h. h .fit) (edges g outline) (edges-good outline g cyc ok)) i
 
-  ahead : (a b x : Bool) → (a ≡ true → b ≡ true → ⊥) → cond a true (cond b false x) ≡ true → b ≡ true → ⊥
-  ahead true b x f e d = f refl d
-  ahead false true x f e d = clash e refl
-  ahead false false x f e d = clash d refl
-
   pub starts-in-order : InOrder (edges g outline) (byStart (edges g outline))
   unfolding byStart
   starts-in-order =
       let key : ℕ → Float = λ i. edge (edges g outline) i .y0 in
-      let o = by-key-strict before key (keyed key start-fits start-number) in
       record {
         all = sort-perm (byKey before key) (upto 0 (length (edges g outline)));
-        rising = sorted-map (λ i j e. not-before-le (key i) (key j) (start-number i) (start-number j) (λ d. ahead (before (key i) (key j)) (before (key j) (key i)) (leb i j) (λ p q. before-asym (key i) (key j) (holds p) (holds q)) e (is-true (before (key j) (key i)) d))) (sortBy (byKey before key) (upto 0 (length (edges g outline)))) (sort-ordered (byKey before key) (o .total) (o .trans) (upto 0 (length (edges g outline))));
+        rising = sorted-up key start-fits start-number (upto 0 (length (edges g outline)));
       }

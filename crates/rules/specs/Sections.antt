@@ -2,7 +2,7 @@
 -- Assumes nothing.
 use mathlib.Core.Path.{_≡_, refl, sym, ap, _∙_, subst}
 use mathlib.Core.Bool.{Bool, true, false, _&&_, cond}
-use mathlib.Core.List.{List, [], _∷_, _++_, map, append-nil, append-assoc, List·Memᴰ, List·Memᴰ·head, List·Memᴰ·eq-of-singleton, List·Memᴰ·not-nil, IsChain, IsChain·nil, IsChain·singleton, IsChain·cons-cons, isChain-cons-cons}
+use mathlib.Core.List.{List, [], _∷_, _++_, map, append-nil, append-assoc, List·Memᴰ, List·Memᴰ·head, List·Memᴰ·eq-of-singleton, List·Memᴰ·not-nil, IsChain, IsChain·nil, IsChain·singleton, IsChain·cons-cons, isChain-cons-cons, map-append}
 use mathlib.Core.Option.{Option, none, some}
 use mathlib.Core.Logic.{_⊎_, inl, inr, _≢_}
 use Prim.Native.Nat.{ℕ, suc, _+_, _≤_, _<_, suc-le-suc}
@@ -17,11 +17,10 @@ use Rattle.seqs.specs.Tests.{either, and-both}
 use Rattle.seqs.specs.All.{all-map, all-append, all-mem}
 use Rattle.seqs.specs.Sift.{sift-append, sift-none, sift-in, sift-from, sift-pass}
 use Rattle.geom.specs.declared.point.P.{P}
-use Rattle.geom.specs.declared.rule.FillRule.{FillRule}
+use Rattle.outlines.specs.declared.rule.FillRule.{FillRule}
 use Rattle.rules.specs.declared.Settings.{Settings}
 use Rattle.rules.specs.declared.Piece.{Piece}
 use Rattle.rules.specs.declared.Entry.{Entry}
-use Rattle.rules.specs.Alls.{map-append}
 use Rattle.rules.specs.Fill.{overlap, connects, only, joined, joins, entry, after, rowEntries, begun, entries, section}
 
 -- ---- lists

@@ -22,7 +22,7 @@ use Rattle.seqs.specs.All.{all-map, all-append, all-sift}
 use Rattle.seqs.specs.Upto.{upto-all}
 use Rattle.seqs.specs.Signed.{natAbs-add}
 use Rattle.geom.specs.declared.point.P.{P}
-use Rattle.geom.specs.declared.rule.FillRule.{FillRule}
+use Rattle.outlines.specs.declared.rule.FillRule.{FillRule}
 use Rattle.geom.specs.Point.{point, rotate, lerp, len, dist}
 use Rattle.geom.specs.Steps.{along}
 use Rattle.rules.specs.declared.Settings.{Settings}

@@ -8,7 +8,7 @@ use lib.ListN.{length}
 use mathlib.Core.List.{List·Permᴰ}
 use Rattle.numbers.specs.Order.{before}
 use Rattle.seqs.specs.Lists.{sift, takeWhile, dropWhile, sortBy, byKey, upto, Sorted}
-use Rattle.geom.specs.declared.rule.FillRule.{FillRule}
+use Rattle.outlines.specs.declared.rule.FillRule.{FillRule}
 use Rattle.rules.specs.declared.Settings.{Settings}
 use Rattle.rules.specs.declared.Edge.{Edge}
 use Rattle.rules.specs.declared.Piece.{Piece}

@@ -14,7 +14,7 @@ use Rattle.seqs.specs.All.{sorted-map}
 use Rattle.seqs.specs.Sift.{sift-append, sift-perm}
 use Rattle.seqs.specs.Sort.{sort-perm, sort-same, sort-sorts}
 use Rattle.seqs.specs.Sweep.{Below, Earlier, crosses, sweep-alone}
-use Rattle.geom.specs.declared.rule.FillRule.{FillRule}
+use Rattle.outlines.specs.declared.rule.FillRule.{FillRule}
 use Rattle.rules.specs.declared.Settings.{Settings}
 use Rattle.rules.specs.declared.Edge.{Edge}
 use Rattle.rules.specs.declared.Piece.{Piece}

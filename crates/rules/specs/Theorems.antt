@@ -4,7 +4,8 @@
 use mathlib.Core.Path.{_≡_, sym, ap, _∙_}
 use mathlib.Core.Bool.{Bool, true, false, cond}
 use mathlib.Core.List.{List, [], map, reverse}
-use Prim.Native.Nat.{ℕ, _≤_, _<_}
+use Prim.Native.Nat.{ℕ, _/_, _≤_, _<_}
+use native.Mathlib.Omega.{arith}
 use native.Mathlib.Nat.{le-trans, mul-le-mul}
 use lib.IntN.{ℤ, pos}
 use lib.ListN.{length}
@@ -15,7 +16,7 @@ use Rattle.numbers.specs.Value.{Within, IsWhole}
 use Rattle.seqs.specs.Lists.{sortBy, fold, insertBack, each, All}
 use Rattle.seqs.specs.Sort.{backs-sort}
 use Rattle.seqs.specs.All.{all-map}
-use Rattle.geom.specs.declared.rule.FillRule.{FillRule}
+use Rattle.outlines.specs.declared.rule.FillRule.{FillRule}
 use Rattle.geom.specs.declared.point.P.{P}
 use Rattle.geom.specs.Point.{rotate, dist}
 use Rattle.geom.specs.Steps.{along}
@@ -29,10 +30,12 @@ use Rattle.rules.specs.Sweep.{InOrder, swept, sweptBy, byStart}
 use Rattle.rules.specs.SweepLaws.{swept-alone, swept-by-alone}
 use Rattle.rules.specs.Alls.{map-reverse}
 use Rattle.rules.specs.Accepted.{Accepted, Checked, checked, laid-out}
-use Rattle.rules.specs.Counts.{edges-few, pieces-few}
+use Rattle.rules.specs.Counts.{edges-few, pieces-half}
 use Rattle.rules.specs.FillSections.{rows-down}
 use Rattle.rules.specs.Edges.{Good, edges-good}
 use Rattle.rules.specs.Pieces.{Small, crosses-within, pieces-small}
+use Rattle.rules.specs.Rise.{Rise}
+use Rattle.rules.specs.RowsRise.{row-rises}
 use Rattle.rules.specs.Stitches.{Inner, m0-whole, m1-whole, parts-whole, targets-inner, section-small, sewn-finite, link-finite}
 use Rattle.rules.specs.Rows.{Fair, row-within, row-ends-whole, rows-fair, rows-fall, rows-strict, starts-in-order}
 
@@ -102,6 +105,10 @@ module _ (corners : List Float) (ends : List ℕ) (g : Settings) (stagger : ℕ)
   pub crossings-finite : All (λ k. All (λ i. Within 22 (crossX es (rowAt g k) i)) (crossed es (rowAt g k))) ks
   crossings-finite = all-map (crosses-within (rings corners ends) g stagger known) ks (rows-fair (rings corners ends) g stagger known)
 
+  -- no step is quadratic in pieces: the rows of an accepted fill rise
+  pub rows-rise : (rule : FillRule) → All (λ k. Rise (piecesOf rule g es k)) ks
+  rows-rise rule = all-map (row-rises (rings corners ends) g stagger known rule) ks (rows-fair (rings corners ends) g stagger known)
+
   module _ (rule : FillRule) (bottomUp : Bool) where
     -- every piece of the row list
     pub pieces-finite : All (λ e. Small (e .piece)) (rowList (rings corners ends) rule g bottomUp)
@@ -135,5 +142,7 @@ module _ (corners : List Float) (ends : List ℕ) (g : Settings) (stagger : ℕ)
   pub edges-bounded : length es ≤ 1024
   edges-bounded = edges-few corners ends g (laid-out corners ends g stagger accepted)
 
-  pub pieces-bounded : (rule : FillRule) (bottomUp : Bool) → length (rowList (rings corners ends) rule g bottomUp) ≤ 4194304
-  pieces-bounded rule bottomUp = le-trans (pieces-few (rings corners ends) rule g bottomUp) (mul-le-mul edges-bounded (known .rows))
+  pub pieces-bounded : (rule : FillRule) (bottomUp : Bool) → length (rowList (rings corners ends) rule g bottomUp) ≤ 2097152
+  pieces-bounded rule bottomUp =
+      let halved : length es / 2 ≤ 512 = omega (arith, edges-bounded) in
+      le-trans (pieces-half (rings corners ends) rule g bottomUp) (mul-le-mul halved (known .rows))

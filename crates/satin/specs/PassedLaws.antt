@@ -16,7 +16,7 @@ use Rattle.geom.specs.Outline.{points}
 use Rattle.geom.specs.OutlineLaws.{points-length}
 use Rattle.geom.specs.Sewing.{flat, fitted}
 use Rattle.geom.specs.SewingLaws.{flat-length, points-flat}
-use Rattle.geom.specs.Limits.{mostPairs, goodLine, goodNumbers, goodStep}
+use Rattle.limits.specs.Limits.{mostPairs, goodLine, goodNumbers, goodStep}
 use Rattle.satinrules.specs.declared.Pair.{Pair}
 use Rattle.satinrules.specs.Pairs.{endsOf, few, countOf, places, pairAt, pairs}
 use Rattle.satinrules.specs.Calls.{railsOf, goodSync, goodRails, sized, mostOf, need, passed, worked, bothPoints, pairsRefusal}

@@ -2,12 +2,13 @@
 use Prim.Native.Nat.{ℕ, _+_, _*_, _/_, _%_, _≤_}
 use native.Mathlib.Omega.{arith}
 use mathlib.Core.Path.{_≡_, refl, sym, ap, _∙_}
-use mathlib.Core.Bool.{Bool, true, false, not, cond}
+use mathlib.Core.Bool.{Bool, true, false, not, _||_, cond}
 use mathlib.Core.List.{List, [], _∷_, _++_}
 use lib.Dec.{eqb}
 use lib.ListN.{length, take, drop, length-append, length-reverse}
 use lib.Ieee.{Float}
 use borrow.Author.Tests.{eq-eqb, ne-eqb}
+use Rattle.seqs.specs.Tests.{clash}
 use Rattle.geom.specs.declared.point.P.{P}
 use Rattle.seqs.specs.Slices.{put}
 use Rattle.seqs.specs.Put.{put-length}
@@ -35,7 +36,7 @@ use Rattle.satin.specs.Passed.{placed}
 use Rattle.satin.specs.PassedLaws.{pass-places, placed-in}
 use Rattle.satin.specs.Underlay.{Fit, underlayCount}
 
-turned-length : (l : List P) (back : Bool) → length (turnedIf back l) ≡ length l
+pub turned-length : (l : List P) (back : Bool) → length (turnedIf back l) ≡ length l
 turned-length l true = length-reverse l
 turned-length l false = refl
 
@@ -130,17 +131,27 @@ module _ (d d₁ : List Float) (c k z : List P) (fits : 2 * length (c ++ (k ++ z
 
 -- ---- the count
 
-only-length : (sewn : Bool) (l : List P) (n : ℕ) → length l ≡ n → length (onlyIf sewn l) ≡ cond sewn n 0
-only-length true l n e = e
+pub or-left : (x y : Bool) → x ≡ true → (x || y) ≡ true
+or-left true y e = refl
+or-left false y e = clash e refl
+
+pub or-right : (x y : Bool) → y ≡ true → (x || y) ≡ true
+or-right true y e = refl
+or-right false y e = e
+
+only-length : (sewn : Bool) (l : List P) (n : ℕ) → (sewn ≡ true → length l ≡ n) → length (onlyIf sewn l) ≡ cond sewn n 0
+only-length true l n e = e refl
 only-length false l n e = refl
 
-pub underlay-count : {a b sync : List Float} {ends : P} {run zigzag : Pass} {n m : ℕ} (g : Satin) → Fit a b sync (g .«run_len») ends run n → Fit a b sync zigzagUnderlaySpacing ends zigzag m → length (underlay (railsOf a b sync) g) ≡ underlayCount g n m
+pub underlay-count : {a b sync : List Float} {ends : P} {run zigzag : Pass} {n m : ℕ} (g : Satin) → ((bit g 1 || bit g 2) ≡ true → Fit a b sync (g .«run_len») ends run n) → (bit g 4 ≡ true → Fit a b sync zigzagUnderlaySpacing ends zigzag m) → length (underlay (railsOf a b sync) g) ≡ underlayCount g n m
 unfolding underlay underlayCount
 underlay-count {a} {b} {sync} {n = n} {m = m} g f h =
     let r = railsOf a b sync in
     let end = afterCentre g in
-    let c : length (centrePass r g false) ≡ n = ap length (centre-is a b sync g) ∙ fit-length f Middle false in
-    let k : length (contourPass r g end) ≡ 2 * n = ap length (contour-is a b sync g end) ∙ length-append (turnedIf end (threadOf SideA (pairs r (g .«run_len»)))) (turnedIf (not end) (threadOf SideB (pairs r (g .«run_len»)))) ∙ omega (arith, fit-length f SideA end, fit-length f SideB (not end)) in
-    let z : length (zigzagPass r end) ≡ m = ap length (zigzag-is a b sync g end) ∙ fit-length h Alternate end in
+    let c : bit g 1 ≡ true → length (centrePass r g false) ≡ n = λ t. ap length (centre-is a b sync g) ∙ fit-length (f (or-left (bit g 1) (bit g 2) t)) Middle false in
+    let k : bit g 2 ≡ true → length (contourPass r g end) ≡ 2 * n = λ t.
+    let w = f (or-right (bit g 1) (bit g 2) t) in
+    ap length (contour-is a b sync g end) ∙ length-append (turnedIf end (threadOf SideA (pairs r (g .«run_len»)))) (turnedIf (not end) (threadOf SideB (pairs r (g .«run_len»)))) ∙ omega (arith, fit-length w SideA end, fit-length w SideB (not end)) in
+    let z : bit g 4 ≡ true → length (zigzagPass r end) ≡ m = λ t. ap length (zigzag-is a b sync g end) ∙ fit-length (h t) Alternate end in
     three-length (onlyIf (bit g 1) (centrePass r g false)) (onlyIf (bit g 2) (contourPass r g end)) (onlyIf (bit g 4) (zigzagPass r end))
     ∙ omega (arith, only-length (bit g 1) (centrePass r g false) n c, only-length (bit g 2) (contourPass r g end) (2 * n) k, only-length (bit g 4) (zigzagPass r end) m z)

@@ -1,6 +1,6 @@
 // The underlay half of a column: its passes one after the other, each over pairs laid in the working slice.
 ghost use mathlib.Core.Path.{_≡_};
-ghost use mathlib.Core.Bool.{false, cond};
+ghost use mathlib.Core.Bool.{true, false, _||_, cond};
 ghost use Prim.Native.Nat.{_+_, _*_, _≤_};
 ghost use lib.ListN.{length};
 ghost use Rattle.seqs.specs.Slices.{put};
@@ -56,7 +56,7 @@ pub fn put_centre(
     n: usize,
     g: Satin,
 ) -> usize
-    requires { ⌜ Fit (now a) (now b) (now sync) (g .«run_len») ends pass n × (baseOf (now a) (now b) + 4 * n ≤ length (now work)) × (k + 2 * length (onlyIf (bit g 1) (centrePass (railsOf (now a) (now b) (now sync)) g false)) ≤ length (now out)) ⌝ }
+    requires { ⌜ (bit g 1 ≡ true → Fit (now a) (now b) (now sync) (g .«run_len») ends pass n) × (baseOf (now a) (now b) + 4 * n ≤ length (now work)) × (k + 2 * length (onlyIf (bit g 1) (centrePass (railsOf (now a) (now b) (now sync)) g false)) ≤ length (now out)) ⌝ }
     ensures { λ r. ⌜ (now (out .exit) ≡ put (now (out .entry)) k (flat (onlyIf (bit g 1) (centrePass (railsOf (now (a .entry)) (now (b .entry)) (now (sync .entry))) g false)))) × (r ≡ k + 2 * length (onlyIf (bit g 1) (centrePass (railsOf (now (a .entry)) (now (b .entry)) (now (sync .entry))) g false))) × (length (now (work .exit)) ≡ length (now (work .entry))) ⌝ }
 {
     if g.underlay % 2 == 1 {
@@ -90,7 +90,7 @@ pub fn put_contour(
     n: usize,
     g: Satin,
 ) -> usize
-    requires { ⌜ Fit (now a) (now b) (now sync) (g .«run_len») ends pass n × (baseOf (now a) (now b) + 4 * n ≤ length (now work)) × (k + 2 * length (onlyIf (bit g 2) (contourPass (railsOf (now a) (now b) (now sync)) g (afterCentre g))) ≤ length (now out)) ⌝ }
+    requires { ⌜ (bit g 2 ≡ true → Fit (now a) (now b) (now sync) (g .«run_len») ends pass n) × (baseOf (now a) (now b) + 4 * n ≤ length (now work)) × (k + 2 * length (onlyIf (bit g 2) (contourPass (railsOf (now a) (now b) (now sync)) g (afterCentre g))) ≤ length (now out)) ⌝ }
     ensures { λ r. ⌜ (now (out .exit) ≡ put (now (out .entry)) k (flat (onlyIf (bit g 2) (contourPass (railsOf (now (a .entry)) (now (b .entry)) (now (sync .entry))) g (afterCentre g))))) × (r ≡ k + 2 * length (onlyIf (bit g 2) (contourPass (railsOf (now (a .entry)) (now (b .entry)) (now (sync .entry))) g (afterCentre g)))) × (length (now (work .exit)) ≡ length (now (work .entry))) ⌝ }
 {
     let end = g.underlay % 2 == 1;
@@ -126,7 +126,7 @@ pub fn put_zigzag(
     n: usize,
     g: Satin,
 ) -> usize
-    requires { ⌜ Fit (now a) (now b) (now sync) (zigzagUnderlaySpacing) ends pass n × (baseOf (now a) (now b) + 4 * n ≤ length (now work)) × (k + 2 * length (onlyIf (bit g 4) (zigzagPass (railsOf (now a) (now b) (now sync)) (afterCentre g))) ≤ length (now out)) ⌝ }
+    requires { ⌜ (bit g 4 ≡ true → Fit (now a) (now b) (now sync) zigzagUnderlaySpacing ends pass n) × (baseOf (now a) (now b) + 4 * n ≤ length (now work)) × (k + 2 * length (onlyIf (bit g 4) (zigzagPass (railsOf (now a) (now b) (now sync)) (afterCentre g))) ≤ length (now out)) ⌝ }
     ensures { λ r. ⌜ (now (out .exit) ≡ put (now (out .entry)) k (flat (onlyIf (bit g 4) (zigzagPass (railsOf (now (a .entry)) (now (b .entry)) (now (sync .entry))) (afterCentre g))))) × (r ≡ k + 2 * length (onlyIf (bit g 4) (zigzagPass (railsOf (now (a .entry)) (now (b .entry)) (now (sync .entry))) (afterCentre g)))) × (length (now (work .exit)) ≡ length (now (work .entry))) ⌝ }
 {
     let end = g.underlay % 2 == 1;
@@ -148,7 +148,7 @@ pub fn put_zigzag(
     k
 }
 
-// The whole underlay to the front of out: centre, contour and zigzag, in that order; answers the place after it.
+// The whole underlay to the front of out: centre, contour and zigzag, in that order; answers the place after it. A pass that isn't sewn may be any.
 pub fn put_underlay(
     work: &mut [f64],
     out: &mut [f64],
@@ -162,7 +162,7 @@ pub fn put_underlay(
     m: usize,
     g: Satin,
 ) -> usize
-    requires { ⌜ Fit (now a) (now b) (now sync) (g .«run_len») ends run n × Fit (now a) (now b) (now sync) zigzagUnderlaySpacing ends zigzag m × (baseOf (now a) (now b) + 4 * n ≤ length (now work)) × (baseOf (now a) (now b) + 4 * m ≤ length (now work)) × (2 * length (underlay (railsOf (now a) (now b) (now sync)) g) ≤ length (now out)) ⌝ }
+    requires { ⌜ ((bit g 1 || bit g 2) ≡ true → Fit (now a) (now b) (now sync) (g .«run_len») ends run n) × (bit g 4 ≡ true → Fit (now a) (now b) (now sync) zigzagUnderlaySpacing ends zigzag m) × (baseOf (now a) (now b) + 4 * n ≤ length (now work)) × (baseOf (now a) (now b) + 4 * m ≤ length (now work)) × (2 * length (underlay (railsOf (now a) (now b) (now sync)) g) ≤ length (now out)) ⌝ }
     ensures { λ r. ⌜ (now (out .exit) ≡ put (now (out .entry)) 0 (flat (underlay (railsOf (now (a .entry)) (now (b .entry)) (now (sync .entry))) g))) × (r ≡ 2 * length (underlay (railsOf (now (a .entry)) (now (b .entry)) (now (sync .entry))) g)) × (length (now (work .exit)) ≡ length (now (work .entry))) ⌝ }
 {
     let c = put_centre(work, out, 0, a, b, sync, ends, run, n, g);

@@ -12,7 +12,7 @@ use Rattle.numbers.specs.Num.{zero64}
 use Rattle.seqs.specs.Lists.{each, every, fold}
 use Rattle.geom.specs.declared.point.P.{P}
 use Rattle.geom.specs.Outline.{points}
-use Rattle.geom.specs.Limits.{mostSyncs, mostPairs, goodNumbers, goodLine, goodStep, goodSplit}
+use Rattle.limits.specs.Limits.{mostSyncs, mostPairs, goodNumbers, goodLine, goodStep, goodSplit}
 use Rattle.geom.specs.Sewing.{flat, fitted}
 use Rattle.geometry.specs.LineAnswers.{line}
 use Rattle.satinrules.specs.declared.Pair.{Pair}

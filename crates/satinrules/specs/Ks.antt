@@ -12,7 +12,7 @@ use Rattle.numbers.specs.Root.{isqrt, nearRoot, rootUnits, root}
 use Rattle.geom.specs.declared.point.P.{P}
 use Rattle.geom.specs.Point.{point, len, dist, norm, lerp, tiny}
 use Rattle.geom.specs.Steps.{steps}
-use Rattle.geom.specs.Line.{lengthFrom, polylineLength, shortest}
+use Rattle.polyline.specs.Line.{lengthFrom, polylineLength, shortest}
 use Rattle.satinrules.specs.declared.Pair.{Pair}
 use Rattle.satinrules.specs.declared.Satin.{Satin}
 use Rattle.satinrules.specs.declared.Split.the-variants.{Length}

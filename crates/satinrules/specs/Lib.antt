@@ -1,5 +1,6 @@
 -- What a satin column is (Settings, Arc, Pairs, Column, Calls), and what is proved of it.
 pub mod Settings
+pub mod SettingsLaws
 pub mod Arc
 pub mod Pairs
 pub mod Column

@@ -11,7 +11,7 @@ use Rattle.numbers.specs.Num.{_⊕_, _⊖_, _⊗_, _⊘_, real, half, zero64}
 use Rattle.geom.specs.declared.point.P.{P}
 use Rattle.geom.specs.Point.{point, tiny}
 use Rattle.geom.specs.Steps.{steps}
-use Rattle.geom.specs.Line.{polylineLength, shortest}
+use Rattle.polyline.specs.Line.{polylineLength, shortest}
 use Rattle.satinrules.specs.declared.Pair.{Pair}
 use Rattle.satinrules.specs.Arc.{railAt}
 

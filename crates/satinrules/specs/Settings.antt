@@ -5,7 +5,7 @@ use lib.IntN.{pos}
 use lib.Ieee.{Float, eq}
 use Rattle.refusal.specs.Refusal.{SETTING, Answer, done, refused, unless, answer}
 use Rattle.numbers.specs.Num.{real, literal, zero64}
-use Rattle.geom.specs.Limits.{goodSpacing, goodLen, goodInset, goodUnderlay, goodSplit}
+use Rattle.limits.specs.Limits.{goodSpacing, goodLen, goodInset, goodUnderlay, goodSplit}
 use Rattle.satinrules.specs.declared.Satin.{Satin}
 use Rattle.satinrules.specs.declared.Split.{Split}
 use Rattle.satinrules.specs.declared.Split.the-variants as split

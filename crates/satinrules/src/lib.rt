@@ -3,11 +3,11 @@
 ghost use mathlib.Core.Path.{_≡_};
 ghost use Rattle.satinrules.specs.Settings.{saidMade, goodSplitSet, goodSatin, splitOf, madeAnswer};
 use geom::P;
-use geom::limits::good_inset;
-use geom::limits::good_len;
-use geom::limits::good_spacing;
-use geom::limits::good_split;
-use geom::limits::good_underlay;
+use limits::good_inset;
+use limits::good_len;
+use limits::good_spacing;
+use limits::good_split;
+use limits::good_underlay;
 use refusal::SETTING;
 
 // Matched points on both rails.
@@ -76,7 +76,7 @@ pub fn good_satin(g: Satin) -> bool
 }
 
 // The split that a number says: 0 of either sign is none.
-fn split_of(x: f64) -> Split
+pub fn split_of(x: f64) -> Split
     ensures { λ r. ⌜ r ≡ splitOf x ⌝ }
 {
     if x == 0.0 {

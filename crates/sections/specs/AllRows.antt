@@ -19,14 +19,16 @@ use Rattle.seqs.specs.All.{all-sift}
 use Rattle.seqs.specs.Sift.{sift-append}
 use Rattle.seqs.specs.Each.{each-append}
 use Rattle.geom.specs.declared.point.P.{P}
-use Rattle.geom.specs.declared.rule.FillRule.{FillRule}
+use Rattle.outlines.specs.declared.rule.FillRule.{FillRule}
 use Rattle.rules.specs.declared.Settings.{Settings}
 use Rattle.rules.specs.declared.Piece.{Piece}
 use Rattle.rules.specs.declared.Entry.{Entry}
 use Rattle.rules.specs.Fill.{overlap, connects, only, joined, joins, entry, after, rowEntries, begun, entries}
+use Rattle.rules.specs.Rise.{Rise}
 use Rattle.sections.specs.declared.Row.{Row}
 use Rattle.sections.specs.Mark.{pieceIn, entryIn, Low, markAt, afterAt, rowMarks, rowNew, flatMarks, rowEnd, rowsIn, markedIn}
 use Rattle.sections.specs.MarkEntries.{row-marks, row-new}
+use Rattle.sections.specs.Rises.{Rising}
 use Rattle.sections.specs.RowEnds.{row-kept, rows-next, rows-none, read-in, drop-in}
 
 -- ---- a row's marks, read back
@@ -131,10 +133,12 @@ module _ (rings : List (List P)) (rule : FillRule) (g : Settings) (l : List Floa
     pub run : Run w v n (n + 2 * r0) (flatMarks (ahead v b0 r0 r section)) (flatMarks (markedIn rings rule g l w n rows))
     pub news : section + begun (ahead v b0 r0 r section) ≡ begun (markedIn rings rule g l w n rows)
     pub low : All (λ e. e .nth ≤ r) (opened v b0 r0)
+    pub last : Rising l b0 r0
+    pub rest : All Rise (rowsIn l w n r0 r (rows - r))
 
-  pub marking-start : Marking w 0 0 0 0
+  pub marking-start : All Rise (rowsIn l w n 0 0 rows) → Marking w 0 0 0 0
   unfolding markedIn
-  marking-start =
+  marking-start up =
       let rest : ℕ → List Entry = λ left. entries rings rule g [] 0 (rowsIn l w n 0 0 left) in
       let z : rows ≡ rows - 0 = omega arith in
       let k : n ≡ n + 2 * 0 = omega arith in
@@ -147,7 +151,22 @@ module _ (rings : List (List P)) (rule : FillRule) (g : Settings) (l : List Floa
         run = run-at (ap (λ left. flatMarks (rest left)) z) (subst (λ j. Run w w n j (flatMarks (rest rows)) (flatMarks (rest rows))) k (run-start w (flatMarks (rest rows)) n));
         news = subst (λ left. 0 + begun (rest left) ≡ begun (rest rows)) z q;
         low = tt;
+        last = record { up = tt };
+        rest = subst (λ left. All Rise (rowsIn l w n 0 0 left)) z up;
       }
+
+  -- row r, and the rows after it
+  next-row : {v : List ℕ} {b0 r0 r section r1 : ℕ} → Marking v b0 r0 r section → r < rows → r1 ≡ rowEnd v n r0 r
+      → rowsIn l w n r0 r (rows - r) ≡ map (pieceIn l) (upto r0 (r1 - r0)) ∷ rowsIn l w n r1 (r + 1) (rows - (r + 1))
+  next-row {v} {b0} {r0} {r} m h end =
+      subst (λ t. rowsIn l w n r0 r (rows - r) ≡ map (pieceIn l) (upto r0 (t - r0)) ∷ rowsIn l w n t (r + 1) (rows - (r + 1))) (sym (end ∙ row-kept v w n r0 r (m .run .kept))) (rows-next l w n r0 r rows h)
+
+  next-rises : {v : List ℕ} {b0 r0 r section r1 : ℕ} → Marking v b0 r0 r section → r < rows → r1 ≡ rowEnd v n r0 r
+      → All Rise (map (pieceIn l) (upto r0 (r1 - r0)) ∷ rowsIn l w n r1 (r + 1) (rows - (r + 1)))
+  next-rises m h end = subst (All Rise) (next-row m h end) (m .rest)
+
+  pub marking-rises : {v : List ℕ} {b0 r0 r section r1 : ℕ} → Marking v b0 r0 r section → r < rows → r1 ≡ rowEnd v n r0 r → Rising l r0 r1
+  marking-rises m h end = record { up = next-rises m h end .0 }
 
   pub marking-next : {v v′ : List ℕ} {b0 r0 r section r1 new : ℕ} → 3 * n ≤ length w → Marking v b0 r0 r section → r < rows → r1 ≡ rowEnd v n r0 r → r0 ≤ r1 → r1 ≤ n
       → Wrote v v′ (n + 2 * r0) (rowMarks rings rule g l v (record { n = n; b0 = b0; r0 = r0; r1 = r1 }) section r0 (r1 - r0))
@@ -165,8 +184,7 @@ module _ (rings : List (List P)) (rule : FillRule) (g : Settings) (l : List Floa
       let size : length (flatMarks es) ≡ 2 * (r1 - r0) = ap length is ∙ marks-length rings rule g l v s section r0 (r1 - r0) in
       let back : opened v′ r0 r1 ≡ es = read-row rings rule g os ps l v′ n section r0 (r1 - r0) (drop (n + 2 * r0 + length (flatMarks es)) v) (wrote-at (flatMarks es) wrote (omega (arith, m .run .size))) in
       let begins : section + begun es ≡ new = row-new rings rule g l v s section r0 (r1 - r0) ∙ sym y in
-      let next : rowsIn l w n r0 r (rows - r) ≡ ps ∷ rest =
-      subst (λ t. rowsIn l w n r0 r (rows - r) ≡ map (pieceIn l) (upto r0 (t - r0)) ∷ rowsIn l w n t (r + 1) (rows - (r + 1))) (sym (end ∙ row-kept v w n r0 r (m .run .kept))) (rows-next l w n r0 r rows h) in
+      let next : rowsIn l w n r0 r (rows - r) ≡ ps ∷ rest = next-row m h end in
       let split : ahead v b0 r0 r section ≡ es ++ ahead v′ r0 r1 (r + 1) new =
       ap (λ t. entries rings rule g os section t) next ∙ (λ i. es ++ entries rings rule g (sym back i) (begins i) rest) in
       let k : n + 2 * r0 + length (flatMarks es) ≡ n + 2 * r1 = omega arith in
@@ -180,6 +198,8 @@ module _ (rings : List (List P)) (rule : FillRule) (g : Settings) (l : List Floa
             (run-step (flatMarks es) (flatMarks later) (run-at (ap (λ t. flatMarks t) split ∙ each-append (λ (e : Entry). e .section ∷ e .nth ∷ []) es later) (m .run)) wrote);
         news = sum-on section (begun (ahead v b0 r0 r section)) (begun es) (begun later) (begun (markedIn rings rule g l w n rows)) new (m .news) (ap begun split ∙ begun-append es later) begins;
         low = subst (λ t. All (λ e. e .nth ≤ r + 1) t) (sym back) (row-low rings rule g os ps r (m .low) section ps);
+        last = marking-rises m h end;
+        rest = next-rises m h end .1;
       }
 
   pub marking-end : {v : List ℕ} {b0 r0 r section : ℕ} → Marking v b0 r0 r section → rows ≤ r → Wrote w v n (flatMarks (markedIn rings rule g l w n rows)) × (section ≡ begun (markedIn rings rule g l w n rows))

@@ -9,7 +9,7 @@ use lib.ListN.{length, getD, take, drop}
 use lib.Ieee.{Float, nan}
 use Rattle.seqs.specs.Lists.{upto, sift, each, takeWhile}
 use Rattle.geom.specs.declared.point.P.{P}
-use Rattle.geom.specs.declared.rule.FillRule.{FillRule}
+use Rattle.outlines.specs.declared.rule.FillRule.{FillRule}
 use Rattle.rules.specs.declared.Settings.{Settings}
 use Rattle.rules.specs.declared.Piece.{Piece}
 use Rattle.rules.specs.declared.Entry.{Entry}
@@ -37,11 +37,6 @@ over l p t = overlap (pieceIn l t) p
 
 abbrev pub under : List Float → Piece → ℕ → Bool
 under l o j = overlap o (pieceIn l j)
-
--- the first of them
-abbrev pub Hit : (ℕ → Bool) → ℕ → ℕ → Found → Type 0
-Hit p i n (At t) = (hits p i n ≡ t ∷ hits p (t + 1) n) × (t < n) × (i ≤ t)
-Hit p i n Nothing = hits p i n ≡ []
 
 unfoldable pub countOf : (ℕ → Bool) → ℕ → ℕ → ℕ
 countOf p i n = length (hits p i n)

@@ -12,7 +12,7 @@ use lib.Ieee.{Float}
 use Rattle.seqs.specs.Lists.{upto, sift}
 use Rattle.seqs.specs.Sift.{sift-map}
 use Rattle.geom.specs.declared.point.P.{P}
-use Rattle.geom.specs.declared.rule.FillRule.{FillRule}
+use Rattle.outlines.specs.declared.rule.FillRule.{FillRule}
 use Rattle.rules.specs.declared.Settings.{Settings}
 use Rattle.rules.specs.declared.Piece.{Piece}
 use Rattle.rules.specs.declared.Entry.{Entry}

@@ -11,7 +11,7 @@ use Rattle.seqs.specs.Lists.{upto, All}
 use Rattle.seqs.specs.All.{all-sift}
 use Rattle.seqs.specs.Reads.{read-on, fuel-more, fuel-none}
 use Rattle.geom.specs.declared.point.P.{P}
-use Rattle.geom.specs.declared.rule.FillRule.{FillRule}
+use Rattle.outlines.specs.declared.rule.FillRule.{FillRule}
 use Rattle.rules.specs.declared.Settings.{Settings}
 use Rattle.rules.specs.declared.Entry.{Entry}
 use Rattle.rules.specs.Fill.{connects}

@@ -1,9 +1,9 @@
--- For rows that are laid out in the slices, the marks are those of the rows' entries. Assumes nothing.
+-- For rows that are laid out in the slices, the marks are those of the rows' entries; and the slices' rows rise where they do. Assumes nothing.
 use Prim.Native.Nat.{ℕ, zero, suc, _+_, _-_, _*_, _<_}
 use native.Mathlib.Omega.{arith}
 use mathlib.Core.Path.{_≡_, refl, sym, ap, _∙_, subst}
 use mathlib.Core.Bool.{Bool, true, false, cond, _&&_}
-use mathlib.Core.List.{List, [], _∷_, _++_, map, append-assoc}
+use mathlib.Core.List.{List, [], _∷_, _++_, map, append-assoc, map-append}
 use mathlib.Core.Option.{Option, none, some}
 use borrow.Author.Tests.{eq-eqb, ne-eqb}
 use lib.Dec.{eqb}
@@ -11,16 +11,17 @@ use lib.IntN.{pos}
 use lib.ListN.{length, getD, take, drop, replicate, length-map, length-replicate, take-append-drop}
 use lib.Seq.{drop-at}
 use lib.Ieee.{Float, nan}
-use Rattle.seqs.specs.Lists.{upto, sift, each, takeWhile}
+use Rattle.seqs.specs.Lists.{upto, sift, each, takeWhile, All}
 use Rattle.seqs.specs.Sift.{sift-map}
 use Rattle.seqs.specs.Each.{each-append, each-length}
 use Rattle.geom.specs.declared.point.P.{P}
-use Rattle.geom.specs.declared.rule.FillRule.{FillRule}
+use Rattle.outlines.specs.declared.rule.FillRule.{FillRule}
 use Rattle.rules.specs.declared.Settings.{Settings}
 use Rattle.rules.specs.declared.Piece.{Piece}
 use Rattle.rules.specs.declared.Entry.{Entry}
-use Rattle.rules.specs.Alls.{map-append}
+use Rattle.rules.specs.Alls.{all-mapped, sorted-mapped}
 use Rattle.rules.specs.Fill.{overlap, linkEnds, connects, only, joined, joins, entry, after, rowEntries, begun, entries}
+use Rattle.rules.specs.Rise.{Onward, Rise}
 use Rattle.rules.specs.PieceTable.{pieceBlock, rowCounts}
 use Rattle.rules.specs.Sections.{entries-pieces}
 use Rattle.sections.specs.Mark.{pieceIn, flatMarks, rowEnd, rowsIn, markedIn, Laid}
@@ -82,6 +83,17 @@ module _ (l : List Float) where
       (λ t. map (pieceIn l) (upto i (end t - i)) ∷ rowsIn l w n (end t) (r + 1) (length rows))
       ∙ (λ t. map (pieceIn l) (upto i (c t)) ∷ rowsIn l w n (i + length row) (r + 1) (length rows))
       ∙ (λ t. row-read i row later f′ t ∷ rows-read w n (i + length row) (r + 1) rows rest e″ f″ t)
+
+-- of rows that are laid out
+rows-laid : {rows : List (List Piece)} {l : List Float} {w : List ℕ} {n : ℕ} → Laid rows l w n → rowsIn l w n 0 0 (length rows) ≡ map (map blank) rows
+rows-laid {rows} {l} {w} {n} h = rows-read l w n 0 0 rows (drop (3 * n) l) (h .counts) (sym (take-append-drop (3 * n) l) ∙ ap (λ t. t ++ drop (3 * n) l) (h .floats))
+
+-- which rise where the rows do
+blank-rises : (row : List Piece) → Rise row → Rise (map blank row)
+blank-rises row h = sorted-mapped Onward Onward blank (λ p q r. r) row h
+
+pub laid-rise : {rows : List (List Piece)} {l : List Float} {w : List ℕ} {n : ℕ} → Laid rows l w n → All Rise rows → All Rise (rowsIn l w n 0 0 (length rows))
+laid-rise {rows} h up = rw (rows-laid h) (all-mapped Rise Rise (map blank) blank-rises rows up)
 
 -- ---- marks don't look at the rows' numbers
 
@@ -151,8 +163,7 @@ module _ (rings : List (List P)) (rule : FillRule) (g : Settings) where
     marked-is : markedIn rings rule g l w n (length rows) ≡ map blankly (entries rings rule g [] 0 rows)
     unfolding markedIn
     marked-is =
-        ap (λ t. entries rings rule g [] 0 t) (rows-read l w n 0 0 rows (drop (3 * n) l) (h .counts) (sym (take-append-drop (3 * n) l) ∙ ap (λ t. t ++ drop (3 * n) l) (h .floats)))
-        ∙ same-entries [] 0 rows
+        ap (λ t. entries rings rule g [] 0 t) (rows-laid h) ∙ same-entries [] 0 rows
 
     pub marked-marks : flatMarks (markedIn rings rule g l w n (length rows)) ≡ flatMarks (entries rings rule g [] 0 rows)
     marked-marks = ap (λ t. flatMarks t) marked-is ∙ same-marks (entries rings rule g [] 0 rows)

@@ -1,32 +1,33 @@
 -- In rows that rise the pieces that overlap one piece stand side by side, so that neighbours decide. Assumes nothing.
-use Prim.Native.Nat.{ℕ, zero, suc, _+_, _-_, _*_, _≤_, _<_}
+use Prim.Native.Nat.{ℕ, zero, suc, _+_, _-_, _≤_, _<_}
 use native.Mathlib.Omega.{arith}
-use mathlib.Core.Path.{_≡_, refl, sym, ap, _∙_}
+use mathlib.Core.Path.{_≡_, refl, sym, ap, _∙_, subst}
 use mathlib.Core.Bool.{Bool, true, false, not, _&&_, true≢false}
-use mathlib.Core.List.{List, [], _∷_}
+use mathlib.Core.List.{List, [], _∷_, map}
 use lib.Dec.{T, ltb, eqb}
-use lib.ListN.{length}
+use lib.ListN.{length, getD, length-map, List·getD-map}
 use lib.Ieee.{Float, le, lt}
 use lib.Ieee.Bits.{is-true}
 use borrow.Author.Tests.{ne-eqb, lt-ltb, ltb-true, not-true, not-false}
-use Rattle.numbers.specs.FloatOrder.{le-trans, le-lt-trans, lt-le-trans}
+use Rattle.numbers.specs.FloatOrder.{le-lt-trans, lt-le-trans}
 use Rattle.numbers.specs.Laws.{holds}
-use Rattle.seqs.specs.Lists.{upto, sift, All}
-use Rattle.seqs.specs.All.{all-map}
+use Rattle.seqs.specs.Lists.{upto, All}
+use Rattle.seqs.specs.All.{all-map, sorted-at}
 use Rattle.seqs.specs.Sift.{sift-none, sift-pass}
 use Rattle.seqs.specs.Tests.{clash, refute, and-both}
-use Rattle.seqs.specs.Upto.{upto-all, upto-jump}
+use Rattle.seqs.specs.Upto.{upto-length, upto-at, upto-all, upto-jump}
 use Rattle.geom.specs.declared.point.P.{P}
-use Rattle.geom.specs.declared.rule.FillRule.{FillRule}
+use Rattle.outlines.specs.declared.rule.FillRule.{FillRule}
 use Rattle.rules.specs.declared.Settings.{Settings}
 use Rattle.rules.specs.declared.Piece.{Piece}
 use Rattle.rules.specs.Fill.{overlap}
+use Rattle.rules.specs.Rise.{Onward}
 use Rattle.sections.specs.declared.Row.{Row}
 use Rattle.sections.specs.declared.Found.{Found}
 use Rattle.sections.specs.declared.Found.the-variants.{At, Nothing}
 use Rattle.sections.specs.Mark.{pieceIn, hits, over, under, countOf, onlyAt, joinedAt, joinsAt}
-use Rattle.sections.specs.MarkLaws.{hits-next, count-kept, count-passed, count-none}
-use Rattle.sections.specs.Rises.{xaAt, xbAt, Rising, Risen}
+use Rattle.sections.specs.MarkLaws.{hits-next, count-kept, count-passed}
+use Rattle.sections.specs.Rises.{xaAt, xbAt, Rising}
 
 -- ---- tests
 
@@ -72,16 +73,19 @@ module _ (p : ℕ → Bool) where
 -- ---- rows that rise
 
 module _ (l : List Float) (from to : ℕ) (r : Rising l from to) where
-  far : (k t : ℕ) → from ≤ t → t + 1 + k < to → T (le (xaAt l t) (xaAt l (t + 1 + k))) × T (le (xbAt l t) (xbAt l (t + 1 + k)))
-  far zero t a b = let e : t + 1 + 0 ≡ t + 1 = omega arith in rw e (r .next t a (omega arith))
-  far (suc k) t a b =
-      let e : t + 1 + suc k ≡ t + 1 + k + 1 = omega arith in
-      let x = far k t a (omega arith) in
-      let y = r .next (t + 1 + k) (omega arith) (omega arith) in
-      rw e (le-trans _ _ _ (x .0) (y .0), le-trans _ _ _ (x .1) (y .1))
+  abbrev row : List Piece
+  row = map (pieceIn l) (upto from (to - from))
+
+  row-at : (t : ℕ) → from ≤ t → t < to → getD row (t - from) (pieceIn l 0) ≡ pieceIn l t
+  row-at t a b =
+      let e : from + (t - from) ≡ t = omega arith in
+      List·getD-map (pieceIn l) (upto from (to - from)) (t - from) 0 ∙ ap (pieceIn l) (upto-at from (to - from) (t - from) 0 (omega arith) ∙ e)
 
   pub rise : (t u : ℕ) → from ≤ t → t < u → u < to → T (le (xaAt l t) (xaAt l u)) × T (le (xbAt l t) (xbAt l u))
-  rise t u a b c = let e : t + 1 + (u - (t + 1)) ≡ u = omega arith in rw e at (far (u - (t + 1)) t a (omega arith))
+  rise t u a b c =
+      let k : length row ≡ to - from = length-map (upto from (to - from)) (pieceIn l) ∙ upto-length from (to - from) in
+      let h = sorted-at Onward row (t - from) (u - from) (pieceIn l 0) (omega arith) (omega arith) (r .up) in
+      subst (λ p. Onward p (pieceIn l u)) (row-at t a (omega arith)) (subst (λ p. Onward (getD row (t - from) (pieceIn l 0)) p) (row-at u (omega arith) c) h)
 
   -- what lies left of x at t does so before t; what reaches past it, after t
   pub left-before : (x : Float) (t u : ℕ) → from ≤ u → u < t → t < to → lt x (xbAt l t) ≡ false → lt x (xbAt l u) ≡ false
@@ -231,24 +235,6 @@ module _ (l : List Float) (from to : ℕ) where
         go u c d zero q = let z : u ≡ mid = omega arith in rw z e
         go u c d (suc j) q = left-before l from to up x mid u c (omega arith) (omega (arith, k .high)) e
 
--- ---- the test for it
-
-pub record Begun (l : List Float) (from t : ℕ) : Type 0 where
-  pub next : (u : ℕ) → from ≤ u → u < t → T (le (xaAt l u) (xaAt l (u + 1))) × T (le (xbAt l u) (xbAt l (u + 1)))
-
-pub begun-none : (l : List Float) (from : ℕ) → Begun l from from
-begun-none l from = record { next = λ u a b. absurd (omega arith) }
-
-pub begun-more : (l : List Float) (from t : ℕ) → Begun l from t → (le (xaAt l t) (xaAt l (t + 1)) && le (xbAt l t) (xbAt l (t + 1))) ≡ true → Begun l from (t + 1)
-begun-more l from t k e = record { next = λ u a b. go u a b (t - u) refl }
-  where
-    go : (u : ℕ) → from ≤ u → u < t + 1 → (j : ℕ) → t - u ≡ j → T (le (xaAt l u) (xaAt l (u + 1))) × T (le (xbAt l u) (xbAt l (u + 1)))
-    go u a b zero q = let z : u ≡ t = omega arith in let h = and-both (le (xaAt l t) (xaAt l (t + 1))) (le (xbAt l t) (xbAt l (t + 1))) e in rw z (holds (h .0), holds (h .1))
-    go u a b (suc j) q = k .next u a (omega arith)
-
-pub begun-all : (l : List Float) (from to t : ℕ) → Begun l from t → to ≤ t + 1 → Rising l from to
-begun-all l from to t k h = record { next = λ u a b. k .next u a (omega arith) }
-
 -- ---- what j joins, by the only place that it overlaps
 
 abbrev place : Found → ℕ
@@ -276,15 +262,3 @@ module _ (rings : List (List P)) (rule : FillRule) (g : Settings) (l : List Floa
   pub joins-at : {t : ℕ} → At t ≡ onlyAt (hits (over l (pieceIn l j)) (s .b0) (s .r0)) → joinedAt rings rule g l w s j (At t) ≡ joinsAt rings rule g l w s j
   unfolding joinsAt
   joins-at e = ap (joinedAt rings rule g l w s j) e
-
--- of what two scans find
-pub only-many : (p : ℕ → Bool) (i n t u : ℕ) (m : List ℕ) → hits p i n ≡ t ∷ hits p (t + 1) n → hits p (t + 1) n ≡ u ∷ m → Nothing ≡ onlyAt (hits p i n)
-only-many p i n t u m e f = sym (ap onlyAt (e ∙ ap (λ r. t ∷ r) f))
-
-pub only-single : (p : ℕ → Bool) (i n t : ℕ) → hits p i n ≡ t ∷ hits p (t + 1) n → hits p (t + 1) n ≡ [] → At t ≡ onlyAt (hits p i n)
-only-single p i n t e f = sym (ap onlyAt (e ∙ ap (λ r. t ∷ r) f))
-
--- a row that rises, whatever a test says
-pub risen-any : (l : List Float) (from to : ℕ) → Rising l from to → (r : Bool) → Risen l from to r
-risen-any l from to k true = k
-risen-any l from to k false = tt

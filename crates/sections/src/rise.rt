@@ -1,44 +1,17 @@
-// Rows whose pieces go to the right, which is tested and never assumed: there bisection and two neighbours find what a scan would.
+// In rows whose pieces go to the right, as those of every accepted fill do (rules/specs/Theorems: rows-rise), bisection and two
+// neighbours find what a scan would.
 ghost use mathlib.Core.Path.{_≡_};
 ghost use mathlib.Core.Bool.{true, not, _&&_};
 ghost use Prim.Native.Nat.{_+_, _-_, _*_, _≤_, _<_};
 ghost use lib.Dec.{eqb, ltb};
 ghost use lib.ListN.{length};
-ghost use lib.Ieee.{le};
 ghost use Rattle.sections.specs.Mark.{hits, over, under, countOf, onlyAt, Within};
-ghost use Rattle.sections.specs.Rises.{xaAt, xbAt, Rising, Risen};
+ghost use Rattle.sections.specs.Rises.{Rising};
 ghost use Rattle.sections.specs.RiseLaws.{Between};
 use crate::Found;
 use crate::overlap;
 use crate::piece_at;
 use rules::Piece;
-
-// Neither end of the piece after t falls back.
-fn goes_on(pieces: &[f64], t: usize) -> bool
-    requires { ⌜ 3 * t + 5 < length (now pieces) ⌝ }
-    ensures { λ r. ⌜ r ≡ (le (xaAt (now (pieces .entry)) t) (xaAt (now (pieces .entry)) (t + 1)) && le (xbAt (now (pieces .entry)) t) (xbAt (now (pieces .entry)) (t + 1))) ⌝ }
-{
-    let k = 3 * t;
-    if pieces[k + 1] <= pieces[k + 4] {
-        return pieces[k + 2] <= pieces[k + 5];
-    }
-    false
-}
-
-// Whether the pieces from `from` up to `to` go to the right.
-pub fn rises(pieces: &[f64], from: usize, to: usize) -> bool
-    requires { ⌜ (from ≤ to) × (3 * to ≤ length (now pieces)) ⌝ }
-    ensures { λ r. ⌜ Risen (now (pieces .entry)) from to r ⌝ }
-{
-    let mut t = from;
-    while t + 1 < to {
-        if !goes_on(pieces, t) {
-            return false;
-        }
-        t += 1;
-    }
-    true
-}
 
 // The places that are left of a bisection.
 pub struct Half {
@@ -77,7 +50,7 @@ fn first_past(pieces: &[f64], from: usize, to: usize, x: f64) -> usize
 }
 
 // The only place from b0 on, before r0, whose piece p overlaps.
-pub fn only_rising(pieces: &[f64], b0: usize, r0: usize, p: Piece) -> Found
+pub fn only_open(pieces: &[f64], b0: usize, r0: usize, p: Piece) -> Found
     requires { ⌜ Rising (now pieces) b0 r0 × (b0 ≤ r0) × (3 * r0 ≤ length (now pieces)) ⌝ }
     ensures { λ r. ⌜ (r ≡ onlyAt (hits (over (now (pieces .entry)) p) b0 r0)) × Within r b0 r0 ⌝ }
 {
@@ -119,7 +92,7 @@ fn clear_right(pieces: &[f64], r1: usize, j: usize, o: Piece) -> bool
 }
 
 // Whether o, which overlaps the piece at j, overlaps no other from r0 on, before r1.
-pub fn meets_rising(pieces: &[f64], r0: usize, r1: usize, j: usize, o: Piece) -> bool
+pub fn meets_one(pieces: &[f64], r0: usize, r1: usize, j: usize, o: Piece) -> bool
     requires { ⌜ Rising (now pieces) r0 r1 × (r0 ≤ j) × (j < r1) × (3 * r1 ≤ length (now pieces)) × (under (now pieces) o j ≡ true) ⌝ }
     ensures { λ r. ⌜ r ≡ eqb (countOf (under (now (pieces .entry)) o) r0 r1) 1 ⌝ }
 {

@@ -3,7 +3,7 @@ use Prim.Native.Nat.{ℕ, zero, suc, _+_, _-_, _≤_, _<_}
 use native.Mathlib.Omega.{arith}
 use mathlib.Core.Path.{_≡_, refl, sym, ap, _∙_}
 use mathlib.Core.Bool.{Bool, true, false, cond}
-use mathlib.Core.List.{List, [], _∷_, _++_, map, reverse, reverse-cons, reverse-append}
+use mathlib.Core.List.{List, [], _∷_, _++_, map, reverse, reverse-cons, reverse-append, map-append, map-map}
 use lib.IntN.{pos, _+ℤ_}
 use lib.ListN.{length, length-map, length-append, length-reverse}
 use lib.Ieee.{Float}
@@ -22,15 +22,6 @@ use Rattle.sewing.specs.declared.row.Row.{Row}
 use Rattle.sewing.specs.Sewing.{most, forward, minEnd, lowest, highest, rowBy, rowOf, needle, target, targets}
 
 -- ---- lists
-
-module _ {A B : Type 0} where
-  pub map-append : (f : A → B) (l m : List A) → map f (l ++ m) ≡ map f l ++ map f m
-  map-append f [] m = refl
-  map-append f (a ∷ l) m = ap (λ r. f a ∷ r) (map-append f l m)
-
-map-map : {A B C : Type 0} (f : B → C) (g : A → B) (l : List A) → map f (map g l) ≡ map (λ a. f (g a)) l
-map-map f g [] = refl
-map-map f g (a ∷ l) = ap (λ r. f (g a) ∷ r) (map-map f g l)
 
 module _ {A : Type 0} where
   -- two counts, place by place

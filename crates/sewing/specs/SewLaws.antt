@@ -5,7 +5,7 @@ use native.Mathlib.Nat.{mul-pos}
 use mathlib.Core.Path.{_≡_, refl, sym, ap, _∙_, subst}
 use mathlib.Core.Bool.{Bool, true, false, cond}
 use mathlib.Core.Logic.{_⊎_, inl, inr}
-use mathlib.Core.List.{List, [], _∷_, _++_, map, reverse, reverse-cons, reverse-append, append-assoc}
+use mathlib.Core.List.{List, [], _∷_, _++_, map, reverse, reverse-cons, reverse-append, append-assoc, map-append}
 use lib.Dec.{eqb, lit<}
 use lib.IntN.{pos}
 use lib.ListN.{length, length-map, length-append}
@@ -29,7 +29,6 @@ use Rattle.geom.specs.Sewing.{flat}
 use Rattle.rules.specs.Fill.{needles, rowPoints, parts, between, sewFrom, sew, sewn}
 use Rattle.geom.specs.Steps.{along}
 use Rattle.sewing.specs.Sewing.{forward, startOf, endOf, cuts, way, gap, cutsFor, sewTo, back, sewnFrom}
-use Rattle.sewing.specs.RowLaws.{map-append}
 use Rattle.sewing.specs.Flat.{flat-length, flat-append}
 
 -- ---- gaps

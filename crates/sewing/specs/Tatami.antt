@@ -5,7 +5,7 @@ use mathlib.Core.Bool.{Bool}
 use mathlib.Core.List.{List, map}
 use lib.Ieee.{Float}
 use Rattle.geom.specs.declared.point.P.{P}
-use Rattle.geom.specs.declared.rule.FillRule.{FillRule}
+use Rattle.outlines.specs.declared.rule.FillRule.{FillRule}
 use Rattle.rules.specs.Fill.{rowList, begun, sections, sewn, tatami}
 use Rattle.sewing.specs.declared.Field.{Field}
 use Rattle.sewing.specs.Sewing.{entriesIn, firstSections}

@@ -1,7 +1,6 @@
 // Module 4, the fill of square Q: K1, and the checks that are run only.
 use crate::say;
-use geom::FillRule;
-use leaves::to_bits;
+use outlines::FillRule;
 use rules::Settings;
 use tatami::Filled;
 use tatami::tatami;
@@ -25,13 +24,6 @@ fn end(r: Filled) {
     say::number(r.sections);
     say::text(b", points ");
     say::number(r.points);
-    say::text(b"\n");
-}
-
-fn spot(x: f64, y: f64) {
-    say::bits(to_bits(x));
-    say::text(b" ");
-    say::bits(to_bits(y));
     say::text(b"\n");
 }
 
@@ -77,10 +69,10 @@ fn k1() {
     let mut floats = [0.0; 20];
     say::text(b"fill of Q with the exact need");
     end(square(4.0, &mut points, &mut floats));
-    spot(points[0], points[1]);
-    spot(points[2], points[3]);
-    spot(points[4], points[5]);
-    spot(points[6], points[7]);
+    say::spot(points[0], points[1]);
+    say::spot(points[2], points[3]);
+    say::spot(points[4], points[5]);
+    say::spot(points[6], points[7]);
 }
 
 fn low_spacing() {

@@ -2,9 +2,11 @@
 // the 16 hex digits of their bits, a refusal by its number.
 mod fill;
 mod number;
+mod rails;
 mod say;
 
 fn main() {
     number::write();
     fill::write();
+    rails::write();
 }

@@ -1,4 +1,5 @@
 // What a line is made of.
+use leaves::to_bits;
 use libc::STDOUT_FILENO;
 
 pub fn text(t: &[u8]) {
@@ -16,4 +17,12 @@ pub fn number(n: u64) {
 pub fn refused(n: u64) {
     text(b"refused: ");
     number(n);
+}
+
+// A point's line.
+pub fn spot(x: f64, y: f64) {
+    bits(to_bits(x));
+    text(b" ");
+    bits(to_bits(y));
+    text(b"\n");
 }

@@ -13,7 +13,7 @@ use Rattle.geom.specs.declared.point.P.{P}
 use Rattle.geom.specs.Outline.{points}
 use Rattle.geom.specs.OutlineLaws.{cornerAt, points-length, points-at}
 use Rattle.geom.specs.Sewing.{flat}
-use Rattle.geom.specs.Line.{piece, piecesFrom, pieces, resampleKeepCorners}
+use Rattle.polyline.specs.Line.{piece, piecesFrom, pieces, resampleKeepCorners}
 use Rattle.geom.specs.SewingLaws.{flat-append}
 use Rattle.stroke.specs.Running.{base, onePass}
 

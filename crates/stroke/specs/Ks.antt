@@ -12,7 +12,7 @@ use Rattle.numbers.specs.Root.{isqrt, nearRoot, rootUnits, root}
 use Rattle.geom.specs.declared.point.P.{P}
 use Rattle.geom.specs.Point.{point, len, dist, lerp}
 use Rattle.geom.specs.Steps.{steps, along}
-use Rattle.geom.specs.Line.{shortest, pieceSteps, stepsFrom, piece, piecesFrom, pieces, resampleKeepCorners}
+use Rattle.polyline.specs.Line.{shortest, pieceSteps, stepsFrom, piece, piecesFrom, pieces, resampleKeepCorners}
 use Rattle.stroke.specs.Running.{base, onePass, pass, passesFrom, running}
 
 -- a point on the x axis

@@ -7,7 +7,7 @@ use lib.ListN.{length, take, drop}
 use lib.Ieee.{Float}
 use Rattle.geom.specs.declared.point.P.{P}
 use Rattle.geom.specs.Outline.{points}
-use Rattle.geom.specs.Line.{resampleKeepCorners}
+use Rattle.polyline.specs.Line.{resampleKeepCorners}
 
 -- the line, and its first corner again where it is closed
 unfoldable pub base : List P → Bool → List P

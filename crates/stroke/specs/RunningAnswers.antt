@@ -8,7 +8,7 @@ use Rattle.refusal.specs.Refusal.{SETTING, unless, _then_}
 use Rattle.refusal.specs.Sewn.{sewn, output}
 use Rattle.refusal.specs.declared.Sewn.{Sewn}
 use Rattle.geom.specs.Outline.{points}
-use Rattle.geom.specs.Limits.{goodLen, goodPasses}
+use Rattle.limits.specs.Limits.{goodLen, goodPasses}
 use Rattle.geom.specs.Sewing.{flat, fitted}
 use Rattle.geometry.specs.LineAnswers.{line}
 use Rattle.stroke.specs.Running.{running}

@@ -7,10 +7,10 @@ pub mod one;
 pub mod passes;
 pub mod whole;
 
-use geom::limits::good_len;
-use geom::limits::good_line;
-use geom::limits::good_numbers;
-use geom::limits::good_passes;
+use limits::good_len;
+use limits::good_line;
+use limits::good_numbers;
+use limits::good_passes;
 use refusal::LAYOUT;
 use refusal::NUMBER;
 use refusal::SETTING;

@@ -7,12 +7,12 @@ ghost use Rattle.geom.specs.Outline.{points};
 ghost use Rattle.geom.specs.Sewing.{flat};
 ghost use Rattle.stroke.specs.Running.{onePass};
 ghost use Rattle.stroke.specs.Closing.{closing};
-use geom::line::count_line;
-use geom::line::piece_steps;
-use geom::line::put_line;
-use geom::line::put_piece;
 use geom::sewing::add_within;
 use geom::sewing::corner;
+use polyline::count_line;
+use polyline::piece_steps;
+use polyline::put_line;
+use polyline::put_piece;
 
 // How many stitches the closing piece takes.
 fn closing_steps(line: &[f64], closed: bool, len: f64) -> u64

@@ -8,7 +8,7 @@ use lib.Ieee.{Float}
 use Rattle.numbers.specs.Num.{_⊕_, _⊖_, _⊗_}
 use Rattle.seqs.specs.Lists.{keepIf, sift}
 use Rattle.seqs.specs.Front.{next, none}
-use Rattle.geom.specs.Inside.{inside}
+use Rattle.outlines.specs.Inside.{inside}
 use Rattle.rules.specs.declared.Edge.{Edge}
 use Rattle.rules.specs.Fill.{edge, crossX, dir, crossing, spans}
 use Rattle.sweep.specs.declared.piece.Cut.{Cut}

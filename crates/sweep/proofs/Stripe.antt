@@ -17,7 +17,7 @@ use Rattle.seqs.specs.Slices.{Wrote}
 use Rattle.seqs.specs.Records.{Added}
 use Rattle.seqs.specs.Wrote.{Run, run-start, run-at, run-step, run-end}
 use Rattle.seqs.specs.Adding.{Adding, adding-start, adding-at, adding-step, adding-end}
-use Rattle.geom.specs.declared.rule.FillRule.{FillRule}
+use Rattle.outlines.specs.declared.rule.FillRule.{FillRule}
 use Rattle.rules.specs.declared.Settings.{Settings}
 use Rattle.rules.specs.declared.Edge.{Edge}
 use Rattle.rules.specs.declared.Piece.{Piece}

@@ -15,7 +15,7 @@ use Rattle.seqs.specs.All.{sorted-map}
 use Rattle.seqs.specs.Sift.{sift-same}
 use Rattle.seqs.specs.Sort.{backs-sort, backs-sorts}
 use Rattle.seqs.specs.Sweep.{Below, crosses, sweep-alone}
-use Rattle.geom.specs.declared.rule.FillRule.{FillRule}
+use Rattle.outlines.specs.declared.rule.FillRule.{FillRule}
 use Rattle.rules.specs.declared.Settings.{Settings}
 use Rattle.rules.specs.declared.Edge.{Edge}
 use Rattle.rules.specs.declared.Piece.{Piece}

@@ -22,7 +22,7 @@ use Rattle.seqs.specs.Tests.{clash, refute}
 use Rattle.seqs.specs.Sort.{backs-perm, backs-sort, sort-ordered}
 use Rattle.seqs.specs.ByKey.{by-key-strict}
 use Rattle.geom.specs.declared.point.P.{P}
-use Rattle.geom.specs.declared.rule.FillRule.{FillRule}
+use Rattle.outlines.specs.declared.rule.FillRule.{FillRule}
 use Rattle.geom.specs.Outline.{rings}
 use Rattle.rules.specs.declared.Settings.{Settings}
 use Rattle.rules.specs.declared.Edge.{Edge}

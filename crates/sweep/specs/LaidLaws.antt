@@ -13,7 +13,7 @@ use Rattle.seqs.specs.Lists.{each, dropWhile, upto, All}
 use Rattle.seqs.specs.All.{all-at}
 use Rattle.seqs.specs.Each.{each-length}
 use Rattle.seqs.specs.Slices.{Wrote}
-use Rattle.geom.specs.declared.rule.FillRule.{FillRule}
+use Rattle.outlines.specs.declared.rule.FillRule.{FillRule}
 use Rattle.rules.specs.declared.Settings.{Settings}
 use Rattle.rules.specs.declared.Edge.{Edge}
 use Rattle.rules.specs.declared.Piece.{Piece}

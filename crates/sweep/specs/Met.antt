@@ -5,7 +5,7 @@ use native.Mathlib.Omega.{arith}
 use mathlib.Core.Path.{_≡_, refl, sym, ap, _∙_}
 use mathlib.Core.Bool.{Bool, true, false, cond}
 use mathlib.Core.Logic.{inl, inr}
-use mathlib.Core.List.{List, [], _∷_, _++_, map, reverse, reverse-append}
+use mathlib.Core.List.{List, [], _∷_, _++_, map, reverse, reverse-append, map-append}
 use lib.IntN.{ℤ, pos, negsuc, sucℤ, natAbs, _+ℤ_, _-ℤ_}
 use lib.ListN.{length}
 use lib.Signed.{leZ}
@@ -18,7 +18,6 @@ use Rattle.seqs.specs.Ints.{above, below, same-int, add-parts, sub-parts-is, ga
 use Rattle.rules.specs.declared.Settings.{Settings}
 use Rattle.rules.specs.declared.Edge.{Edge}
 use Rattle.rules.specs.Fill.{kLo, kHi, howMany, through, rowNumbers, met}
-use Rattle.rules.specs.Alls.{map-append}
 use Rattle.edges.specs.Span.{rowsOf}
 use Rattle.edges.specs.SpanLaws.{through-length}
 use Rattle.sweep.specs.Swept.{numbers}

@@ -12,8 +12,8 @@ use Rattle.numbers.specs.Order.{before}
 use Rattle.seqs.specs.Lists.{upto, sift, takeWhile, dropWhile, fold, each, insertBack, byKey}
 use Rattle.seqs.specs.Slices.{Wrote}
 use Rattle.seqs.specs.Records.{Added}
-use Rattle.geom.specs.declared.rule.FillRule.{FillRule}
-use Rattle.geom.specs.Inside.{inside}
+use Rattle.outlines.specs.declared.rule.FillRule.{FillRule}
+use Rattle.outlines.specs.Inside.{inside}
 use Rattle.rules.specs.declared.Settings.{Settings}
 use Rattle.rules.specs.declared.Edge.{Edge}
 use Rattle.rules.specs.declared.Piece.{Piece}

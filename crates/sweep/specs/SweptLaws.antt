@@ -13,8 +13,8 @@ use Rattle.seqs.specs.Records.{Added}
 use Rattle.seqs.specs.Reads.{fuel-more, fuel-none}
 use Rattle.seqs.specs.Sift.{sift-length}
 use Rattle.seqs.specs.Sort.{perm-length, backs-perm}
-use Rattle.geom.specs.declared.rule.FillRule.{FillRule}
-use Rattle.geom.specs.Inside.{inside}
+use Rattle.outlines.specs.declared.rule.FillRule.{FillRule}
+use Rattle.outlines.specs.Inside.{inside}
 use Rattle.rules.specs.declared.Settings.{Settings}
 use Rattle.rules.specs.declared.Edge.{Edge}
 use Rattle.rules.specs.declared.Piece.{Piece}

@@ -6,11 +6,11 @@ ghost use lib.IntN.{pos, negsuc, natAbs};
 ghost use lib.ListN.{length, replicate};
 ghost use Rattle.seqs.specs.Records.{Added};
 ghost use Rattle.seqs.specs.Slices.{Wrote};
-ghost use Rattle.geom.specs.Inside.{inside};
+ghost use Rattle.outlines.specs.Inside.{inside};
 ghost use Rattle.edges.specs.Table.{edgesIn};
 ghost use Rattle.sweep.specs.Swept.{cutEnds, wideSpan, passed, cuts, Stepped, spanBlock, piecePlace};
 use edges::edge_at;
-use geom::FillRule;
+use outlines::FillRule;
 
 // What a row asks of its pieces: how much each end gives way, and the least width.
 pub struct Cut {

@@ -16,8 +16,8 @@ use crate::waiting::wait;
 use edges::Rows;
 use edges::row_at;
 use edges::row_number;
-use geom::FillRule;
 use leaves::larger;
+use outlines::FillRule;
 use rules::Settings;
 
 fn cut_at(rule: FillRule, g: Settings, upward: bool, w: Rows, r: usize) -> Cut

@@ -23,20 +23,23 @@ use Rattle.rules.specs.PieceTable.{pieceBlock, rowCounts}
 use Rattle.rules.specs.Sections.{entries-pieces}
 use Rattle.rules.specs.FillSections.{numbers-below}
 use Rattle.rules.specs.Accepted.{checked}
-use Rattle.rules.specs.Theorems.{pieces-bounded}
+use Rattle.rules.specs.Rise.{Rise}
+use Rattle.rules.specs.Alls.{all-reverse, all-mapped}
+use Rattle.rules.specs.Theorems.{rows-rise, pieces-bounded}
 use Rattle.edges.specs.declared.rows.Rows.{Rows}
 use Rattle.edges.specs.Span.{rowNumber}
 use Rattle.sweep.specs.Swept.{waiting, numbers, swept, sweptAll}
 use Rattle.sweep.specs.Exact.{sweep-exact}
 use Rattle.sweep.specs.Met.{numbers-met}
 use Rattle.sweep.specs.LaidLaws.{Read, block-at, counts-length, wrote-there, piece-number}
-use Rattle.sections.specs.Mark.{flatMarks, markedIn}
-use Rattle.sections.specs.Marked.{marked-marks, marked-begun, marked-length}
+use Rattle.sections.specs.Mark.{flatMarks, rowsIn as rowsLent, markedIn}
+use Rattle.sections.specs.Marked.{laid-rise, marked-marks, marked-begun, marked-length}
 use Rattle.sewing.specs.Sewing.{rowNumber as sewnRow, entryAt, entriesIn, numbersIn, links, Marked, Linked}
 use Rattle.sewing.specs.LinkedLaws.{entries-kept, entries-length, numbers-are, put-kept, linked}
-use Rattle.tatami.specs.declared.Plan.{Plan}
-use Rattle.tatami.specs.Stages.{Passed, alone, Lent, fieldOf, Sectioned, listOf, rowsIn}
-use Rattle.tatami.specs.FindLaws.{spans-rows, outlined}
+use Rattle.finding.specs.declared.Plan.{Plan}
+use Rattle.finding.specs.Stages.{Passed, alone}
+use Rattle.tatami.specs.Stages.{Lent, fieldOf, Sectioned, listOf, rowsIn}
+use Rattle.finding.specs.FindLaws.{spans-rows, outlined}
 
 -- ---- lists
 
@@ -132,7 +135,21 @@ module _ (corners : List Float) (ends : List ℕ) (t : Plan) where
         subst (λ (rows : List (List Piece)). i < length (each (λ r. r) rows) → getD (each (λ r. r) rows) i (none .piece) .k ≡ rowNumber (t .rows) (t .upward) (getD (rowCounts 0 rows) i 0)) swept-is
         (piece-number (t .rows) (t .upward) (t .rule) (t .g) (edges (t .g) (rings corners ends)) (none .piece) (waiting (t .upward) (edges (t .g) (rings corners ends))) i) h
 
+    met-rise : (upward : Bool) → All (λ k. Rise (piecesOf (t .rule) (t .g) (edges (t .g) (rings corners ends)) k)) (met upward (rowNumbers (t .g) (edges (t .g) (rings corners ends))))
+    unfolding met
+    met-rise true = all-reverse (λ k. Rise (piecesOf (t .rule) (t .g) (edges (t .g) (rings corners ends)) k)) (rowNumbers (t .g) (edges (t .g) (rings corners ends))) (rows-rise corners ends (t .g) (t .stagger) (p .accepted) (t .rule))
+    met-rise false = rows-rise corners ends (t .g) (t .stagger) (p .accepted) (t .rule)
+
+    alone-rise : All Rise rows
+    alone-rise =
+        let es = edges (t .g) (rings corners ends) in
+        all-mapped (λ k. Rise (piecesOf (t .rule) (t .g) es k)) Rise (piecesOf (t .rule) (t .g) es) (λ k h. h) (met (t .upward) (rowNumbers (t .g) es)) (met-rise (t .upward))
+
   module _ (n : ℕ) (pieces : List Float) (numbers : List ℕ) (k : Lent corners ends t n pieces numbers) where
+    -- the rows that are lent rise
+    pub lent-rise : All Rise (rowsLent pieces numbers n 0 0 (t .rows .n))
+    lent-rise = subst (λ c. All Rise (rowsLent pieces numbers n 0 0 c)) (rows-count (k .passed)) (laid-rise (k .laid) (alone-rise (k .passed)))
+
     pub layout : Layout corners ends
     layout = outlined corners ends t (k .passed) .layout
 

@@ -9,20 +9,21 @@ use lib.ListN.{length, drop, replicate, length-replicate}
 use lib.Ieee.{Float}
 use Rattle.refusal.specs.Refusal.{DONE}
 use Rattle.numbers.specs.Num.{zero64}
-use Rattle.geom.specs.declared.rule.FillRule.{FillRule}
+use Rattle.outlines.specs.declared.rule.FillRule.{FillRule}
 use Rattle.geom.specs.Outline.{rings}
 use Rattle.rules.specs.declared.Settings.{Settings}
-use Rattle.rules.specs.Fill.{rowList, tatami}
+use Rattle.rules.specs.Fill.{rowList, tatami, gate, roomed, refusal}
 use Rattle.geom.specs.Sewing.{flat}
-use Rattle.rules.specs.Calls.{gate, roomed, refusal, sewnPoints, sewnEnds, sewnFits, tatamiAnswer, listedFloats, listedRows, listedSections, listFits, rowListAnswer}
+use Rattle.rules.specs.Calls.{sewnPoints, sewnEnds, sewnFits, tatamiAnswer, listedFloats, listedRows, listedSections, listFits, rowListAnswer}
 use Rattle.rules.specs.CallLaws.{gate-through, gate-stop}
 use Rattle.rules.specs.Accepted.{Accepted}
 use Rattle.tatami.specs.declared.Filled.{Filled}
 use Rattle.tatami.specs.declared.Listed.{Listed}
-use Rattle.tatami.specs.declared.gate.Way.{Way}
-use Rattle.tatami.specs.declared.gate.Way.the-variants.{Refused}
+use Rattle.finding.specs.declared.gate.Way.{Way}
+use Rattle.finding.specs.declared.gate.Way.the-variants.{Refused}
 use Rattle.tatami.specs.Left.{left, leftBy, leftList, leftListBy, tatamiLeft, rowListLeft}
-use Rattle.tatami.specs.Stages.{Gated, Sewed, Noted, Zeroed}
+use Rattle.finding.specs.Stages.{Gated, Zeroed}
+use Rattle.tatami.specs.Stages.{Sewed, Noted}
 use Rattle.tatami.specs.RoomLaws.{counted-none, written-none, worked-none, worked-zero}
 
 -- what is put to the front, said otherwise

@@ -1,14 +1,14 @@
 -- What each number of document 01 leaves, and which number a stage's findings give. Assumes nothing.
-use Prim.Native.Nat.{ℕ, _+_, _-_, _*_, _/_, _≤_, _<_}
+use Prim.Native.Nat.{ℕ, _-_, _*_, _/_, _≤_, _<_}
 use native.Mathlib.Omega.{arith}
 use mathlib.Core.Path.{_≡_, refl, sym, ap, _∙_, subst}
-use mathlib.Core.Bool.{Bool, true, false, not, _&&_, _||_, cond}
+use mathlib.Core.Bool.{Bool, true, false, not, _&&_, _||_, cond, and-false}
 use mathlib.Core.List.{List, map}
 use lib.Dec.{ltb, leb, eqb}
 use lib.ListN.{length, take, drop, replicate, length-map, length-drop}
 use lib.IntN.{ℤ}
 use lib.Ieee.{Float}
-use borrow.Author.Tests.{lt-ltb, le-ltb, le-leb, lt-leb, leb-true, ne-eqb}
+use borrow.Author.Tests.{le-ltb, le-leb, lt-leb, leb-true, ne-eqb}
 use Rattle.refusal.specs.Refusal.{DONE, WORK, ROOM, unless}
 use Rattle.seqs.specs.Lists.{upto}
 use Rattle.seqs.specs.Slices.{capped}
@@ -17,42 +17,23 @@ use Rattle.seqs.specs.Capped.{capped-exact, capped-past}
 use Rattle.seqs.specs.Upto.{upto-length}
 use Rattle.seqs.specs.Parts.{tail-lent}
 use Rattle.geom.specs.declared.point.P.{P}
-use Rattle.geom.specs.declared.rule.FillRule.{FillRule}
+use Rattle.outlines.specs.declared.rule.FillRule.{FillRule}
 use Rattle.geom.specs.Outline.{rings}
 use Rattle.rules.specs.declared.Settings.{Settings}
-use Rattle.rules.specs.declared.Edge.{Edge}
 use Rattle.rules.specs.declared.Entry.{Entry}
-use Rattle.rules.specs.Fill.{edges, rowNumbers, section, begun, rowList, sewn, tatami}
-use Rattle.rules.specs.Calls.{needFloats, needWholes, roomed, counted, written, worked, sewnPoints, sewnFits, listFits}
-use Rattle.edges.specs.declared.rows.Rows.{Rows}
-use Rattle.edges.specs.Span.{rowsOf}
+use Rattle.rules.specs.Fill.{edges, section, rowList, sewn, tatami, needFloats, needWholes, roomed}
+use Rattle.rules.specs.Calls.{counted, written, worked, sewnPoints, listFits}
 use Rattle.sewing.specs.declared.Field.{Field}
 use Rattle.sewing.specs.Sewing.{entriesIn, Linked}
 use Rattle.sewing.specs.Tatami.{sewn-tatami}
-use Rattle.tatami.specs.declared.Plan.{Plan}
+use Rattle.finding.specs.declared.Plan.{Plan}
 use Rattle.tatami.specs.declared.Filled.{Filled}
 use Rattle.tatami.specs.declared.Listed.{Listed}
-use Rattle.tatami.specs.declared.find.Found.{Found}
-use Rattle.tatami.specs.declared.find.Found.the-variants.{Short, Held}
-use Rattle.tatami.specs.Stages.{Passed, Holds, Finding, FoundIn, Lent, fieldOf, Sectioned, sewnIn, tatamiOf, Sewed, sewnRoom, listOf, Noted}
-use Rattle.tatami.specs.FindLaws.{few-edges}
-
-and-false : (a : Bool) → (a && false) ≡ false
-and-false true = refl
-and-false false = refl
-
--- ---- SIZE
-
-module _ (g : Settings) (es : List Edge) {w : Rows} (e : w ≡ rowsOf g es) where
-  rows-capped : w .n ≡ capped 4096 (length (rowNumbers g es))
-  unfolding rowsOf
-  rows-capped = ap (λ (w : Rows). w .n) e
-
-  pub rows-many : 4096 < w .n → ltb 4096 (length (rowNumbers g es)) ≡ true
-  rows-many h = lt-ltb 4096 (length (rowNumbers g es)) (capped-past 4096 (length (rowNumbers g es)) rows-capped h)
-
-  pub rows-within : w .n ≤ 4096 → ltb 4096 (length (rowNumbers g es)) ≡ false
-  rows-within h = le-ltb 4096 (length (rowNumbers g es)) (omega (arith, capped-exact 4096 (length (rowNumbers g es)) rows-capped h))
+use Rattle.finding.specs.declared.find.Found.{Found}
+use Rattle.finding.specs.declared.find.Found.the-variants.{Short, Held}
+use Rattle.finding.specs.Stages.{Passed, Holds, Finding, FoundIn}
+use Rattle.tatami.specs.Stages.{Lent, fieldOf, Sectioned, sewnIn, tatamiOf, Sewed, sewnRoom, listOf, Noted}
+use Rattle.finding.specs.FindLaws.{few-edges}
 
 -- ---- WORK
 

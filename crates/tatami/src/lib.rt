@@ -5,20 +5,17 @@
 ghost use mathlib.Core.Path.{_≡_};
 ghost use Rattle.tatami.specs.Left.{left, leftList, tatamiLeft, rowListLeft};
 
-mod find;
-mod gate;
 mod list;
 mod sew;
-mod zero;
 
-use crate::gate::Way;
-use crate::gate::gate;
 use crate::list::listing;
 use crate::sew::sewing;
-use crate::zero::zero_floats;
-use crate::zero::zero_wholes;
-use edges::Rows;
-use geom::FillRule;
+use finding::Plan;
+use finding::gate::Way;
+use finding::gate::gate;
+use finding::zero::zero_floats;
+use finding::zero::zero_wholes;
+use outlines::FillRule;
 use rules::Settings;
 
 // What `tatami` says: document 01's number, how many sections and how many points; no section and no point after a refusal.
@@ -32,15 +29,6 @@ pub struct Filled {
 pub struct Listed {
     pub answer: u64,
     pub pieces: u64,
-}
-
-// What the stages of one fill share: `upward` is bottom up.
-pub struct Plan {
-    pub rule: FillRule,
-    pub g: Settings,
-    pub stagger: u64,
-    pub upward: bool,
-    pub rows: Rows,
 }
 
 // The points of every section, x before y, to the front of `points`, and where each section ends, in points, to the front of `stops`.

@@ -1,14 +1,16 @@
 // Tatami's stages behind the gate: pieces, sections, links, the count, the points.
 ghost use mathlib.Core.Path.{_≡_};
 ghost use lib.ListN.{length};
-ghost use Rattle.rules.specs.Calls.{roomed, sewnFits};
+ghost use Rattle.rules.specs.Fill.{roomed};
+ghost use Rattle.rules.specs.Calls.{sewnFits};
 ghost use Rattle.edges.specs.Span.{Spanned};
 ghost use Rattle.sewing.specs.Sewing.{Linked};
-ghost use Rattle.tatami.specs.Stages.{Passed, Lent, fieldOf, Sectioned, sewnIn, tatamiOf, Sewed, sewnRoom};
+ghost use Rattle.finding.specs.Stages.{Passed};
+ghost use Rattle.tatami.specs.Stages.{Lent, fieldOf, Sectioned, sewnIn, tatamiOf, Sewed, sewnRoom};
 use crate::Filled;
-use crate::Plan;
-use crate::find::Found;
-use crate::find::find;
+use finding::Plan;
+use finding::find::Found;
+use finding::find::find;
 use refusal::DONE;
 use refusal::ROOM;
 use refusal::WORK;

@@ -7,6 +7,7 @@ pub mod geom;
 pub mod leaves;
 pub mod patterns;
 mod records;
+pub mod satin;
 pub mod stroke;
 
 use crate::rng::Rng;
@@ -506,6 +507,11 @@ pub fn groups() -> Vec<Group> {
         Group {
             name: "patterns",
             functions: patterns::functions(),
+            replay: None,
+        },
+        Group {
+            name: "satin",
+            functions: satin::functions(),
             replay: None,
         },
     ]

@@ -1,6 +1,6 @@
 //! Fills: an outline with settings, and how much is lent for it.
 
-use super::numbers::{self, beside, plain};
+use super::numbers::{self, beside, outside, plain};
 use super::outlines::{self, Outline, block, line};
 use crate::expect::{LEN, SHRINK, SPACING};
 use crate::rng::Rng;
@@ -244,7 +244,7 @@ fn len(rng: &mut Rng, span: f64, rows: f64) -> f64 {
 }
 
 /// An inset or a pull.
-fn shrink(rng: &mut Rng) -> f64 {
+pub fn shrink(rng: &mut Rng) -> f64 {
     match rng.below(16) {
         0 => rng.pick(&[100.0, -100.0, 50.0, -50.0]),
         1 => rng.pick(&[-0.0, 5e-324, 1e-9, 0.99, 1.0]),
@@ -257,19 +257,6 @@ fn shrink(rng: &mut Rng) -> f64 {
 
 /// One setting outside its range.
 fn spoil(rng: &mut Rng, fill: &mut Fill) {
-    let outside = |rng: &mut Rng, range: RangeInclusive<f64>| {
-        let (lo, hi) = (*range.start(), *range.end());
-        let under = beside(lo, if lo < 0.0 { 1 } else { -1 });
-        rng.pick(&[
-            under,
-            beside(hi, 1),
-            -1e300,
-            1e300,
-            f64::NAN,
-            f64::INFINITY,
-            f64::NEG_INFINITY,
-        ])
-    };
     match rng.below(6) {
         0 => fill.spacing = outside(rng, SPACING),
         1 => fill.len = outside(rng, LEN),

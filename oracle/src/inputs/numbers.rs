@@ -233,6 +233,21 @@ mod coordinates {
         }
     }
 
+    /// A setting outside its range.
+    pub fn outside(rng: &mut Rng, range: RangeInclusive<f64>) -> f64 {
+        let (lo, hi) = (*range.start(), *range.end());
+        let under = beside(lo, if lo < 0.0 { 1 } else { -1 });
+        rng.pick(&[
+            under,
+            beside(hi, 1),
+            -1e300,
+            1e300,
+            f64::NAN,
+            f64::INFINITY,
+            f64::NEG_INFINITY,
+        ])
+    }
+
     /// Cosine and sine: true ones, the tilted quarter turns that an angle in
     /// f64 gives, and both sides of what TURN lets through.
     pub fn turn(rng: &mut Rng) -> (f64, f64) {

@@ -6,7 +6,7 @@ use mathlib.Core.Bool.{false}
 use Prim.Native.Nat.{_+_, _-_, _≤_}
 use lib.ListN.{length, drop, length-append}
 use Rattle.geom.specs.Outline.{points, rings}
-use Rattle.geom.specs.Inside.{pointInside}
+use Rattle.outlines.specs.Inside.{pointInside}
 use Rattle.rules.specs.Calls.{sewnPoints}
 use Rattle.patterns_rules.specs.Answers.{countOf}
 use Rattle.clip.specs.Clip.{clipped, added, ended, pointsFrom, endsFrom}

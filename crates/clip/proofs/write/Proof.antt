@@ -6,7 +6,7 @@ use Prim.Native.Nat.{_+_, _-_, _*_, _^_, _≤_, _<_}
 use lib.ListN.{length, drop}
 use Rattle.seqs.specs.Front.{Front, front-start, front-at, front-end}
 use Rattle.geom.specs.Outline.{points, rings}
-use Rattle.geom.specs.Inside.{pointInside}
+use Rattle.outlines.specs.Inside.{pointInside}
 use Rattle.geom.specs.Sewing.{flat}
 use Rattle.geom.specs.SewingLaws.{flat-none}
 use Rattle.rules.specs.Calls.{sewnPoints, sewnEnds}

@@ -1,6 +1,6 @@
 use mathlib.Core.Path.{ap, _∙_}
 use Rattle.refusal.specs.Refusal.{done}
-use Rattle.geom.specs.LimitsLaws.{outline-layout}
+use Rattle.limits.specs.LimitsLaws.{outline-layout}
 use Rattle.patterns_rules.specs.Answers.{boundsAnswer}
 use Rattle.cross.specs.BoundLaws.{bounds-are}
 use Rattle.patterns.proofs.Checks.{passed, failed}

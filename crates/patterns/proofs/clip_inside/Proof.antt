@@ -1,6 +1,6 @@
 -- `clip_inside` meets its contract: each answer follows from the tests on the way to it. Assumes nothing.
 use mathlib.Core.Path.{refl}
-use Rattle.geom.specs.LimitsLaws.{outline-layout}
+use Rattle.limits.specs.LimitsLaws.{outline-layout}
 use Rattle.patterns_rules.specs.Answers.{clipRefusal, clipSaid, clipPoints, clipEnds, saidLines, leftPoints, leftEnds}
 use Rattle.patterns.proofs.Checks.{passed, failed}
 use borrow.Author.Needs.{needs}

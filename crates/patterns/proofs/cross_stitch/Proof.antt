@@ -1,6 +1,6 @@
 -- `cross_stitch` meets its contract: each answer follows from the tests on the way to it. Assumes nothing.
 use mathlib.Core.Path.{refl}
-use Rattle.geom.specs.LimitsLaws.{outline-layout}
+use Rattle.limits.specs.LimitsLaws.{outline-layout}
 use Rattle.patterns_rules.specs.Patterns.{crossStitch}
 use Rattle.patterns_rules.specs.Answers.{crossRefusal, crossSaid, crossPoints, crossEnds, saidLines, leftPoints, leftEnds}
 use Rattle.patterns.proofs.Checks.{passed, failed}

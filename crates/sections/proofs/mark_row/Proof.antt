@@ -5,7 +5,7 @@ use native.Mathlib.Omega.{arith}
 use lib.Ieee.{Float}
 use Rattle.seqs.specs.Wrote.{Run, run-start, run-at, run-step, run-end}
 use Rattle.geom.specs.declared.point.P.{P}
-use Rattle.geom.specs.declared.rule.FillRule.{FillRule}
+use Rattle.outlines.specs.declared.rule.FillRule.{FillRule}
 use Rattle.geom.specs.Outline.{rings}
 use Rattle.rules.specs.declared.Settings.{Settings}
 use Rattle.sections.specs.Mark.{rowMarks, rowNew}
@@ -23,10 +23,10 @@ record Inv (rs : List (List P)) (rule : FillRule) (g : Settings) (l : List Float
   pub news : rowNew rs rule g l w s section j (s .r1 - j) ≡ rowNew rs rule g l w s new (s .r0) (s .r1 - s .r0)
 
 abbrev Inv-loop : tie.InvT-loop
-Inv-loop corners ends f pieces wholes₀ s new rising j₀ section₀ wholes j section = Inv (rings corners ends) (f .rule) (f .settings) pieces s new wholes₀ wholes j section
+Inv-loop corners ends f pieces wholes₀ s new j₀ section₀ wholes j section = Inv (rings corners ends) (f .rule) (f .settings) pieces s new wholes₀ wholes j section
 
 abbrev μ-loop : tie.MeasureT-loop
-μ-loop corners ends f pieces wholes₀ s new rising j₀ section₀ wholes j section = s .r1 - j
+μ-loop corners ends f pieces wholes₀ s new j₀ section₀ wholes j section = s .r1 - j
 
 loop-holds : tie.Need-loop-holds Inv-loop μ-loop
 loop-holds c = record { from = omega arith; to = c .before .before .before .before .pre .1 .row; most = c .before .before .before .before .pre .4; run = run-start _ _ _; news = refl }

@@ -2,7 +2,7 @@ use mathlib.Core.Path.{ap, _∙_}
 use mir.Syntax.{w64}
 use mir.ValLaws.{toZ-ofZ}
 use Rattle.exports.specs.Stored.{bit, ruleOf}
-use Rattle.geom.specs.Inside.{inside}
+use Rattle.outlines.specs.Inside.{inside}
 use borrow.Author.Needs.{needs}
 use Rattle.exports.proofs.shape.beahcerot_inside.Statement.{statement}
 use Rattle.exports.proofs.shape.beahcerot_inside.Tie as tie

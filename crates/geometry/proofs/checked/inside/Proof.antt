@@ -3,7 +3,7 @@ use mathlib.Core.Bool.{Bool}
 use mir.Syntax.{w64}
 use mir.ValLaws.{toZ-ofZ}
 use Rattle.refusal.specs.Refusal.{done}
-use Rattle.geom.specs.Inside.{inside}
+use Rattle.outlines.specs.Inside.{inside}
 use Rattle.geometry.specs.Answers.{insideAnswer}
 use borrow.Author.Needs.{needs}
 use Rattle.geometry.proofs.checked.inside.Statement.{statement}

@@ -4,7 +4,7 @@ use mir.Syntax.{w64}
 use mir.ValLaws.{toZ-ofZ}
 use Rattle.refusal.specs.Refusal.{done}
 use Rattle.geometry.specs.Answers.{windingAnswer}
-use Rattle.geom.specs.LimitsLaws.{outline-layout}
+use Rattle.limits.specs.LimitsLaws.{outline-layout}
 use Rattle.geometry.proofs.Checks.{passed, failed}
 use borrow.Author.Needs.{needs}
 use Rattle.geometry.proofs.checked.winding.Statement.{statement}

@@ -1,7 +1,7 @@
 use mathlib.Core.Path.{sym, _∙_}
 use lib.Ieee.{ofBits, round}
 use Rattle.numbers.specs.Num.{literal}
-use Rattle.geom.specs.Line.{shortest}
+use Rattle.polyline.specs.Line.{shortest}
 use Rattle.pairing.specs.Walk.{goesOn}
 use borrow.Author.Needs.{needs}
 use Rattle.pairing.proofs.places.goes.Statement.{statement}

@@ -14,14 +14,16 @@ use Rattle.satin.proofs.underlay.put_centre.Tie as tie
 sew-thread-requires : tie.Need-sew-thread-requires
 sew-thread-requires c κs =
     let a = c .before .before .before .before .before .before .before .before .before .args in
-    let e = rw (first-on (a .g) (c .before .before .if1 .taken), centre-is (a .a .now) (a .b .now) (a .sync .now) (a .g), fit-length (c .before .before .before .before .before .before .before .before .before .pre .0) Middle false) at (c .before .before .before .before .before .before .before .before .before .pre .2) in
-    (c .before .before .before .before .before .before .before .before .before .pre .0 .sound, c .before .before .before .before .before .before .before .before .before .pre .0 .count, c .before .before .before .before .before .before .before .before .before .pre .1, e)
+    let f = c .before .before .before .before .before .before .before .before .before .pre .0 (first-on (a .g) (c .before .before .if1 .taken)) in
+    let e = rw (first-on (a .g) (c .before .before .if1 .taken), centre-is (a .a .now) (a .b .now) (a .sync .now) (a .g), fit-length f Middle false) at (c .before .before .before .before .before .before .before .before .before .pre .2) in
+    (f .sound, f .count, c .before .before .before .before .before .before .before .before .before .pre .1, e)
 
 returns : tie.Need-returns
 returns c =
     let a = c .before .before .before .before .before .before .before .before .before .before .before .before .before .before .args in
-    let e = rw (fit-pairs (c .before .before .before .before .before .before .before .before .before .before .before .before .before .before .pre .0)) at (c .before .before .before .before .sew-thread .ensures .0) in
-    rw (first-on (a .g) (c .before .before .before .before .before .before .before .if1 .taken), centre-is (a .a .now) (a .b .now) (a .sync .now) (a .g)) (e, omega (arith, c .before .before .before .before .sew-thread .ensures .1, fit-length (c .before .before .before .before .before .before .before .before .before .before .before .before .before .before .pre .0) Middle false), c .before .before .before .before .sew-thread .ensures .2)
+    let f = c .before .before .before .before .before .before .before .before .before .before .before .before .before .before .pre .0 (first-on (a .g) (c .before .before .before .before .before .before .before .if1 .taken)) in
+    let e = rw (fit-pairs f) at (c .before .before .before .before .sew-thread .ensures .0) in
+    rw (first-on (a .g) (c .before .before .before .before .before .before .before .if1 .taken), centre-is (a .a .now) (a .b .now) (a .sync .now) (a .g)) (e, omega (arith, c .before .before .before .before .sew-thread .ensures .1, fit-length f Middle false), c .before .before .before .before .sew-thread .ensures .2)
 
 returns-2 : tie.Need-returns-2
 unfolding flat

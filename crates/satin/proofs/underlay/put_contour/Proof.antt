@@ -22,23 +22,25 @@ use Rattle.satin.proofs.underlay.put_contour.Tie as tie
 sew-thread-requires : tie.Need-sew-thread-requires
 sew-thread-requires c κs =
     let a = c .before .before .before .before .before .before .before .before .before .before .args in
+    let w = c .before .before .before .before .before .before .before .before .before .before .pre .0 (eq-eqb (a .g .underlay / 2 % 2) 1 (c .before .before .if1 .taken)) in
     let end = afterCentre (a .g) in
     let ps = pairs (railsOf (a .a .now) (a .b .now) (a .sync .now)) (a .g .«run_len») in
     let p = turnedIf end (threadOf SideA ps) in
     let q = turnedIf (not end) (threadOf SideB ps) in
     let h = rw (eq-eqb (a .g .underlay / 2 % 2) 1 (c .before .before .if1 .taken), contour-is (a .a .now) (a .b .now) (a .sync .now) (a .g) end) at (c .before .before .before .before .before .before .before .before .before .before .pre .2) in
-    (c .before .before .before .before .before .before .before .before .before .before .pre .0 .sound, c .before .before .before .before .before .before .before .before .before .before .pre .0 .count, c .before .before .before .before .before .before .before .before .before .before .pre .1, omega (arith, h, length-append p q, fit-length (c .before .before .before .before .before .before .before .before .before .before .pre .0) SideA end))
+    (w .sound, w .count, c .before .before .before .before .before .before .before .before .before .before .pre .1, omega (arith, h, length-append p q, fit-length w SideA end))
 
 sew-thread-requires-2 : tie.Need-sew-thread-requires-2
 sew-thread-requires-2 c κs =
     let a = c .before .before .before .before .before .before .before .before .before .before .before .before .before .before .before .before .before .args in
+    let w = c .before .before .before .before .before .before .before .before .before .before .before .before .before .before .before .before .before .pre .0 (eq-eqb (a .g .underlay / 2 % 2) 1 (c .before .before .before .before .before .before .before .before .before .if1 .taken)) in
     let end = afterCentre (a .g) in
     let ps = pairs (railsOf (a .a .now) (a .b .now) (a .sync .now)) (a .g .«run_len») in
     let p = turnedIf end (threadOf SideA ps) in
     let q = turnedIf (not end) (threadOf SideB ps) in
     let h = rw (eq-eqb (a .g .underlay / 2 % 2) 1 (c .before .before .before .before .before .before .before .before .before .if1 .taken), contour-is (a .a .now) (a .b .now) (a .sync .now) (a .g) end) at (c .before .before .before .before .before .before .before .before .before .before .before .before .before .before .before .before .before .pre .2) in
-    let e = rw (fit-pairs (c .before .before .before .before .before .before .before .before .before .before .before .before .before .before .before .before .before .pre .0), end-is (a .g)) at (c .before .before .before .before .before .before .sew-thread .ensures .0) in
-    (c .before .before .before .before .before .before .before .before .before .before .before .before .before .before .before .before .before .pre .0 .sound, c .before .before .before .before .before .before .before .before .before .before .before .before .before .before .before .before .before .pre .0 .count, rw (c .before .before .before .before .before .before .sew-thread .ensures .2) (c .before .before .before .before .before .before .before .before .before .before .before .before .before .before .before .before .before .pre .1), omega (arith, flat-room (a .out .now) _ p q (a .k) h e, c .before .before .before .before .before .before .sew-thread .ensures .1, fit-length (c .before .before .before .before .before .before .before .before .before .before .before .before .before .before .before .before .before .pre .0) SideA end, fit-length (c .before .before .before .before .before .before .before .before .before .before .before .before .before .before .before .before .before .pre .0) SideB (not end)))
+    let e = rw (fit-pairs w, end-is (a .g)) at (c .before .before .before .before .before .before .sew-thread .ensures .0) in
+    (w .sound, w .count, rw (c .before .before .before .before .before .before .sew-thread .ensures .2) (c .before .before .before .before .before .before .before .before .before .before .before .before .before .before .before .before .before .pre .1), omega (arith, flat-room (a .out .now) _ p q (a .k) h e, c .before .before .before .before .before .before .sew-thread .ensures .1, fit-length w SideA end, fit-length w SideB (not end)))
 
 same-length : tie.Need-same-length
 same-length c = c .before .before .before .before .sew-thread2 .ensures .2 ∙ c .before .before .before .before .before .before .before .before .before .before .before .sew-thread .ensures .2
@@ -46,27 +48,29 @@ same-length c = c .before .before .before .before .sew-thread2 .ensures .2 ∙ c
 same-length-2 : tie.Need-same-length-2
 same-length-2 c =
     let a = c .before .before .before .before .before .before .before .before .before .before .before .before .before .before .before .before .before .before .before .before .before .before .args in
+    let w = c .before .before .before .before .before .before .before .before .before .before .before .before .before .before .before .before .before .before .before .before .before .before .pre .0 (eq-eqb (a .g .underlay / 2 % 2) 1 (c .before .before .before .before .before .before .before .before .before .before .before .before .before .before .if1 .taken)) in
     let end = afterCentre (a .g) in
     let ps = pairs (railsOf (a .a .now) (a .b .now) (a .sync .now)) (a .g .«run_len») in
     let p = turnedIf end (threadOf SideA ps) in
     let q = turnedIf (not end) (threadOf SideB ps) in
     let h = rw (eq-eqb (a .g .underlay / 2 % 2) 1 (c .before .before .before .before .before .before .before .before .before .before .before .before .before .before .if1 .taken), contour-is (a .a .now) (a .b .now) (a .sync .now) (a .g) end) at (c .before .before .before .before .before .before .before .before .before .before .before .before .before .before .before .before .before .before .before .before .before .before .pre .2) in
-    let e = rw (fit-pairs (c .before .before .before .before .before .before .before .before .before .before .before .before .before .before .before .before .before .before .before .before .before .before .pre .0), end-is (a .g)) at (c .before .before .before .before .before .before .before .before .before .before .before .sew-thread .ensures .0) in
-    let f = rw (fit-pairs (c .before .before .before .before .before .before .before .before .before .before .before .before .before .before .before .before .before .before .before .before .before .before .pre .0), end-is (a .g)) at (c .before .before .before .before .sew-thread2 .ensures .0) in
-    run-size (a .out .now) _ (p ++ q) (a .k) h (flat-then (a .out .now) _ p q (a .k) h e _ (c .before .before .before .before .before .before .before .before .before .before .before .sew-thread .result) (omega (arith, c .before .before .before .before .before .before .before .before .before .before .before .sew-thread .ensures .1, fit-length (c .before .before .before .before .before .before .before .before .before .before .before .before .before .before .before .before .before .before .before .before .before .before .pre .0) SideA end)) f)
+    let e = rw (fit-pairs w, end-is (a .g)) at (c .before .before .before .before .before .before .before .before .before .before .before .sew-thread .ensures .0) in
+    let f = rw (fit-pairs w, end-is (a .g)) at (c .before .before .before .before .sew-thread2 .ensures .0) in
+    run-size (a .out .now) _ (p ++ q) (a .k) h (flat-then (a .out .now) _ p q (a .k) h e _ (c .before .before .before .before .before .before .before .before .before .before .before .sew-thread .result) (omega (arith, c .before .before .before .before .before .before .before .before .before .before .before .sew-thread .ensures .1, fit-length w SideA end)) f)
 
 returns : tie.Need-returns
 returns c =
     let a = c .before .before .before .before .before .before .before .before .before .before .before .before .before .before .before .before .before .before .before .before .before .before .args in
+    let w = c .before .before .before .before .before .before .before .before .before .before .before .before .before .before .before .before .before .before .before .before .before .before .pre .0 (eq-eqb (a .g .underlay / 2 % 2) 1 (c .before .before .before .before .before .before .before .before .before .before .before .before .before .before .if1 .taken)) in
     let end = afterCentre (a .g) in
     let ps = pairs (railsOf (a .a .now) (a .b .now) (a .sync .now)) (a .g .«run_len») in
     let p = turnedIf end (threadOf SideA ps) in
     let q = turnedIf (not end) (threadOf SideB ps) in
     let h = rw (eq-eqb (a .g .underlay / 2 % 2) 1 (c .before .before .before .before .before .before .before .before .before .before .before .before .before .before .if1 .taken), contour-is (a .a .now) (a .b .now) (a .sync .now) (a .g) end) at (c .before .before .before .before .before .before .before .before .before .before .before .before .before .before .before .before .before .before .before .before .before .before .pre .2) in
-    let e = rw (fit-pairs (c .before .before .before .before .before .before .before .before .before .before .before .before .before .before .before .before .before .before .before .before .before .before .pre .0), end-is (a .g)) at (c .before .before .before .before .before .before .before .before .before .before .before .sew-thread .ensures .0) in
-    let f = rw (fit-pairs (c .before .before .before .before .before .before .before .before .before .before .before .before .before .before .before .before .before .before .before .before .before .before .pre .0), end-is (a .g)) at (c .before .before .before .before .sew-thread2 .ensures .0) in
+    let e = rw (fit-pairs w, end-is (a .g)) at (c .before .before .before .before .before .before .before .before .before .before .before .sew-thread .ensures .0) in
+    let f = rw (fit-pairs w, end-is (a .g)) at (c .before .before .before .before .sew-thread2 .ensures .0) in
     rw (eq-eqb (a .g .underlay / 2 % 2) 1 (c .before .before .before .before .before .before .before .before .before .before .before .before .before .before .if1 .taken), contour-is (a .a .now) (a .b .now) (a .sync .now) (a .g) end)
-    (flat-then (a .out .now) _ p q (a .k) h e _ (c .before .before .before .before .before .before .before .before .before .before .before .sew-thread .result) (omega (arith, c .before .before .before .before .before .before .before .before .before .before .before .sew-thread .ensures .1, fit-length (c .before .before .before .before .before .before .before .before .before .before .before .before .before .before .before .before .before .before .before .before .before .before .pre .0) SideA end)) f, omega (arith, length-append p q, c .before .before .before .before .before .before .before .before .before .before .before .sew-thread .ensures .1, c .before .before .before .before .sew-thread2 .ensures .1, fit-length (c .before .before .before .before .before .before .before .before .before .before .before .before .before .before .before .before .before .before .before .before .before .before .pre .0) SideA end, fit-length (c .before .before .before .before .before .before .before .before .before .before .before .before .before .before .before .before .before .before .before .before .before .before .pre .0) SideB (not end)), c .before .before .before .before .sew-thread2 .ensures .2 ∙ c .before .before .before .before .before .before .before .before .before .before .before .sew-thread .ensures .2)
+    (flat-then (a .out .now) _ p q (a .k) h e _ (c .before .before .before .before .before .before .before .before .before .before .before .sew-thread .result) (omega (arith, c .before .before .before .before .before .before .before .before .before .before .before .sew-thread .ensures .1, fit-length w SideA end)) f, omega (arith, length-append p q, c .before .before .before .before .before .before .before .before .before .before .before .sew-thread .ensures .1, c .before .before .before .before .sew-thread2 .ensures .1, fit-length w SideA end, fit-length w SideB (not end)), c .before .before .before .before .sew-thread2 .ensures .2 ∙ c .before .before .before .before .before .before .before .before .before .before .before .sew-thread .ensures .2)
 
 returns-2 : tie.Need-returns-2
 unfolding flat

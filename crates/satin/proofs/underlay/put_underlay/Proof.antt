@@ -5,7 +5,7 @@ use native.Mathlib.Omega.{arith}
 use lib.ListN.{length}
 use Rattle.satinrules.specs.Calls.{railsOf}
 use Rattle.satinrules.specs.Column.{onlyIf, bit, afterCentre, centrePass, contourPass, zigzagPass, underlay}
-use Rattle.satin.specs.UnderlayLaws.{three-length, second-room, third-room, three-put, three-size}
+use Rattle.satin.specs.UnderlayLaws.{or-left, or-right, three-length, second-room, third-room, three-put, three-size}
 use borrow.Author.Needs.{needs}
 use Rattle.satin.proofs.underlay.put_underlay.Statement.{statement}
 use Rattle.satin.proofs.underlay.put_underlay.Tie as tie
@@ -18,7 +18,7 @@ put-centre-requires c κs =
     let cs = onlyIf (bit (a .g) 1) (centrePass r (a .g) false) in
     let ks = onlyIf (bit (a .g) 2) (contourPass r (a .g) (afterCentre (a .g))) in
     let zs = onlyIf (bit (a .g) 4) (zigzagPass r (afterCentre (a .g))) in
-    (c .before .before .before .before .before .before .before .pre .0, c .before .before .before .before .before .before .before .pre .2, omega (arith, c .before .before .before .before .before .before .before .pre .4, three-length cs ks zs))
+    ((λ t. c .before .before .before .before .before .before .before .pre .0 (or-left (bit (a .g) 1) (bit (a .g) 2) t)), c .before .before .before .before .before .before .before .pre .2, omega (arith, c .before .before .before .before .before .before .before .pre .4, three-length cs ks zs))
 
 put-contour-requires : tie.Need-put-contour-requires
 unfolding underlay
@@ -28,7 +28,7 @@ put-contour-requires c κs =
     let cs = onlyIf (bit (a .g) 1) (centrePass r (a .g) false) in
     let ks = onlyIf (bit (a .g) 2) (contourPass r (a .g) (afterCentre (a .g))) in
     let zs = onlyIf (bit (a .g) 4) (zigzagPass r (afterCentre (a .g))) in
-    (c .before .before .before .before .before .before .before .before .before .before .before .before .before .before .pre .0, rw (c .before .before .before .before .before .before .put-centre .ensures .2) (c .before .before .before .before .before .before .before .before .before .before .before .before .before .before .pre .2), omega (arith, second-room (a .out .now) _ cs ks zs (c .before .before .before .before .before .before .before .before .before .before .before .before .before .before .pre .4) (c .before .before .before .before .before .before .put-centre .ensures .0), c .before .before .before .before .before .before .put-centre .ensures .1))
+    ((λ t. c .before .before .before .before .before .before .before .before .before .before .before .before .before .before .pre .0 (or-right (bit (a .g) 1) (bit (a .g) 2) t)), rw (c .before .before .before .before .before .before .put-centre .ensures .2) (c .before .before .before .before .before .before .before .before .before .before .before .before .before .before .pre .2), omega (arith, second-room (a .out .now) _ cs ks zs (c .before .before .before .before .before .before .before .before .before .before .before .before .before .before .pre .4) (c .before .before .before .before .before .before .put-centre .ensures .0), c .before .before .before .before .before .before .put-centre .ensures .1))
 
 put-zigzag-requires : tie.Need-put-zigzag-requires
 unfolding underlay

@@ -1,6 +1,6 @@
 use mathlib.Core.Path.{sym, ap}
 use lib.ListN.{length}
-use Rattle.geom.specs.LineLaws.{piece-length}
+use Rattle.polyline.specs.LineLaws.{piece-length}
 use Rattle.stroke.specs.Closing.{closing-on, closing-short, closing-open}
 use borrow.Author.Needs.{needs}
 use Rattle.stroke.proofs.one.closing_steps.Statement.{statement}

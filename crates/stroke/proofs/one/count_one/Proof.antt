@@ -2,7 +2,7 @@ use mathlib.Core.Path.{_∙_}
 use lib.ListN.{length, length-append}
 use Rattle.seqs.specs.Capped.{capped-on}
 use Rattle.geom.specs.Outline.{points}
-use Rattle.geom.specs.Line.{resampleKeepCorners}
+use Rattle.polyline.specs.Line.{resampleKeepCorners}
 use Rattle.stroke.specs.Closing.{closing, one-pass}
 use borrow.Author.Needs.{needs}
 use Rattle.stroke.proofs.one.count_one.Statement.{statement}

@@ -2,9 +2,9 @@ use mathlib.Core.Path.{ap, _∙_}
 use native.Mathlib.Omega.{arith}
 use lib.ListN.{length}
 use Rattle.seqs.specs.Put.{put-none}
-use Rattle.geom.specs.Line.{piece}
+use Rattle.polyline.specs.Line.{piece}
 use Rattle.geom.specs.SewingLaws.{flat-length, flat-none}
-use Rattle.geom.specs.LineLaws.{piece-length}
+use Rattle.polyline.specs.LineLaws.{piece-length}
 use Rattle.stroke.specs.Closing.{closing, closing-on, closing-short, closing-open}
 use borrow.Author.Needs.{needs}
 use Rattle.stroke.proofs.one.put_closing.Statement.{statement}

@@ -5,7 +5,7 @@ use lib.ListN.{length}
 use Rattle.seqs.specs.Put.{put-then, put-length}
 use Rattle.geom.specs.Outline.{points}
 use Rattle.geom.specs.Sewing.{flat}
-use Rattle.geom.specs.Line.{resampleKeepCorners}
+use Rattle.polyline.specs.Line.{resampleKeepCorners}
 use Rattle.stroke.specs.Closing.{closing, one-flat, one-size}
 use borrow.Author.Needs.{needs}
 use Rattle.stroke.proofs.one.put_one.Statement.{statement}

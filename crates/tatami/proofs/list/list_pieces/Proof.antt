@@ -10,8 +10,8 @@ use Rattle.rules.specs.Calls.{listedFloats, listedRows, listedSections}
 use Rattle.sewing.specs.Sewing.{numbersIn}
 use Rattle.sewing.specs.LinkedLaws.{numbers-length}
 use Rattle.tatami.specs.Stages.{listOf, rowsIn}
-use Rattle.tatami.specs.FindLaws.{spans-rows}
-use Rattle.tatami.specs.EntryLaws.{layout, few-pieces, few-rows, count-is, floats-listed, rows-listed, sections-listed, rows-length, counts-in}
+use Rattle.finding.specs.FindLaws.{spans-rows}
+use Rattle.tatami.specs.EntryLaws.{layout, few-pieces, few-rows, lent-rise, count-is, floats-listed, rows-listed, sections-listed, rows-length, counts-in}
 use Rattle.tatami.specs.RoomLaws.{list-room}
 use Rattle.tatami.specs.Outcomes.{front-is}
 use borrow.Author.Needs.{needs}
@@ -25,7 +25,7 @@ returns : tie.Need-returns
 returns c = rw (sym (c .before .has-room .ensures) ∙ not-true _ (c .if1 .taken)) (refl, refl, refl, refl)
 
 mark-all-requires : tie.Need-mark-all-requires
-mark-all-requires c κs = let a = c .before .before .before .before .before .before .before .before .before .before .before .before .before .before .args in (layout (a .corners .now) (a .ends .now) (a .t) (a .n) (a .pieces .now) (a .numbers .now) (c .before .before .before .before .before .before .before .before .before .before .before .before .before .before .pre), c .before .before .before .before .before .before .before .before .before .before .before .before .before .before .pre .floats, omega (arith, c .before .before .before .before .before .before .before .before .before .before .before .before .before .before .pre .wholes), few-pieces (a .corners .now) (a .ends .now) (a .t) (a .n) (a .pieces .now) (a .numbers .now) (c .before .before .before .before .before .before .before .before .before .before .before .before .before .before .pre), few-rows (a .corners .now) (a .ends .now) (a .t) (a .n) (a .pieces .now) (a .numbers .now) (c .before .before .before .before .before .before .before .before .before .before .before .before .before .before .pre))
+mark-all-requires c κs = let a = c .before .before .before .before .before .before .before .before .before .before .before .before .before .before .args in (layout (a .corners .now) (a .ends .now) (a .t) (a .n) (a .pieces .now) (a .numbers .now) (c .before .before .before .before .before .before .before .before .before .before .before .before .before .before .pre), c .before .before .before .before .before .before .before .before .before .before .before .before .before .before .pre .floats, omega (arith, c .before .before .before .before .before .before .before .before .before .before .before .before .before .before .pre .wholes), few-pieces (a .corners .now) (a .ends .now) (a .t) (a .n) (a .pieces .now) (a .numbers .now) (c .before .before .before .before .before .before .before .before .before .before .before .before .before .before .pre), few-rows (a .corners .now) (a .ends .now) (a .t) (a .n) (a .pieces .now) (a .numbers .now) (c .before .before .before .before .before .before .before .before .before .before .before .before .before .before .pre), lent-rise (a .corners .now) (a .ends .now) (a .t) (a .n) (a .pieces .now) (a .numbers .now) (c .before .before .before .before .before .before .before .before .before .before .before .before .before .before .pre))
 
 mul-put-floats : tie.Need-mul-put-floats
 mul-put-floats c = let a = c .before .before .before .before .before .before .before .before .before .before .before .before .before .before .before .before .before .before .args in omega (arith, few-pieces (a .corners .now) (a .ends .now) (a .t) (a .n) (a .pieces .now) (a .numbers .now) (c .before .before .before .before .before .before .before .before .before .before .before .before .before .before .before .before .before .before .pre))

@@ -1,5 +1,5 @@
 -- Sections, then stitches. Assumes nothing.
-use Rattle.tatami.specs.FindLaws.{spans-rows}
+use Rattle.finding.specs.FindLaws.{spans-rows}
 use Rattle.tatami.specs.RoomLaws.{sewn-is, field-linked, sewed-of}
 use borrow.Author.Needs.{needs}
 use Rattle.tatami.proofs.sew.sew_pieces.Statement.{statement}

@@ -1,0 +1,14 @@
+use Rattle.satin.specs.UnderlayLaws.{first-on, first-off}
+use borrow.Author.Needs.{needs}
+use Rattle.column.proofs.sized.runs.Statement.{statement}
+use Rattle.column.proofs.sized.runs.Tie as tie
+
+returns : tie.Need-returns
+returns c = rw (first-on (c .before .before .args .g) (c .if1 .taken))
+
+returns-2 : tie.Need-returns-2
+returns-2 c = rw (first-off (c .before .before .before .args .g) (c .before .if1 .left))
+
+pub runs-spec : {M : Type 1} → statement M
+runs-spec =
+    tie.close (tie.spec returns returns-2)

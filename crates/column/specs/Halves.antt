@@ -1,0 +1,40 @@
+-- What sewing both halves asks for, and the answer of the call once the rails are accepted. Definitions only.
+use Prim.Native.Nat.{ℕ, _+_, _*_, _≤_}
+use mathlib.Core.Path.{_≡_}
+use mathlib.Core.Bool.{true}
+use mathlib.Core.List.{List}
+use lib.ListN.{take, drop}
+use lib.Ieee.{Float}
+use Rattle.geom.specs.declared.point.P.{P}
+use Rattle.geom.specs.Sewing.{flat}
+use Rattle.satinrules.specs.declared.Satin.{Satin}
+use Rattle.satinrules.specs.Settings.{zigzagUnderlaySpacing}
+use Rattle.satinrules.specs.Pairs.{pairs}
+use Rattle.satinrules.specs.Column.{bit, spacingOf, stitches, column}
+use Rattle.satinrules.specs.Calls.{railsOf, passSteps, passed}
+use Rattle.pairing.specs.Store.{baseOf}
+use Rattle.satin.specs.Underlay.{Fit}
+use Rattle.column.specs.declared.sized.Passes.{Passes}
+use Rattle.column.specs.Sized.{runs}
+
+-- the passes that are sewn are those of the settings, few enough, and a working slice of so many numbers has room for each
+pub record Ready (a b sync : List Float) (g : Satin) (ends : P) (p : Passes) (work : ℕ) : Type 0 where
+  pub run : runs g ≡ true → Fit a b sync (g .«run_len») ends (p .run) (p .n)
+  pub zigzag : bit g 4 ≡ true → Fit a b sync zigzagUnderlaySpacing ends (p .zigzag) (p .m)
+  pub top : Fit a b sync (spacingOf g) ends (p .top) (p .t)
+  pub smallN : p .n ≤ 65537
+  pub smallM : p .m ≤ 65537
+  pub smallT : p .t ≤ 65537
+  pub roomN : baseOf a b + 8 * p .n ≤ work
+  pub roomM : baseOf a b + 8 * p .m ≤ work
+  pub roomT : baseOf a b + 8 * p .t ≤ work
+
+-- the top's stitches, and where they stand in the working slice
+abbrev pub topPath : List Float → List Float → List Float → Satin → List Float
+topPath a b sync g = flat (stitches g (pairs (railsOf a b sync) (spacingOf g)))
+
+abbrev pub pathIn : List Float → List Float → Passes → List Float → List Float
+pathIn a b p w = take (4 * p .t) (drop (baseOf a b + 4 * p .t) w)
+
+unfoldable pub columnPassed : List Float → List Float → List Float → Satin → ℕ → ℕ → ℕ
+columnPassed a b sync g work room = passed (railsOf a b sync) (passSteps g) (column (railsOf a b sync) g) work room

@@ -1,0 +1,42 @@
+-- The passes of a column: which are sewn, and what SIZE and N are worked out from. Definitions only.
+use Prim.Native.Nat.{ℕ}
+use mathlib.Core.Bool.{Bool, _||_, cond}
+use mathlib.Core.List.{List}
+use lib.Dec.{leb}
+use lib.ListN.{length}
+use lib.Ieee.{Float}
+use Rattle.seqs.specs.Lists.{every}
+use Rattle.geom.specs.declared.point.P.{P}
+use Rattle.limits.specs.Limits.{mostPairs}
+use Rattle.satinrules.specs.declared.Satin.{Satin}
+use Rattle.satinrules.specs.Settings.{zigzagUnderlaySpacing}
+use Rattle.satinrules.specs.Pairs.{countOf}
+use Rattle.satinrules.specs.Column.{bit, spacingOf}
+use Rattle.satinrules.specs.Calls.{most}
+use Rattle.pairing.specs.declared.places.Pass.{Pass}
+use Rattle.pairing.specs.Walk.{passOf, walkPlaces}
+use Rattle.column.specs.declared.sized.Passes.{Passes}
+
+-- whether the pass by run_len is sewn: for the centre, for the contour, or for both
+abbrev pub runs : Satin → Bool
+runs g = bit g 1 || bit g 2
+
+-- `sized`, from the place where both rails end
+unfoldable pub sizedAt : P → List P → List Float → Bool
+sizedAt ends sync ss = every (λ s. leb (countOf ends sync s) mostPairs) ss
+
+-- how many places a pass has; none where it isn't sewn
+abbrev pub placesIf : Bool → P → List P → Pass → ℕ
+placesIf sewn ends sync w = cond sewn (length (walkPlaces ends sync w)) 0
+
+-- the three passes and their places
+unfoldable pub passesOf : P → List P → Satin → Passes
+passesOf ends sync g =
+    let run = passOf ends sync (g .«run_len») in
+    let zigzag = passOf ends sync zigzagUnderlaySpacing in
+    let top = passOf ends sync (spacingOf g) in
+    record { run = run; n = placesIf (runs g) ends sync run; zigzag = zigzag; m = placesIf (bit g 4) ends sync zigzag; top = top; t = length (walkPlaces ends sync top) }
+
+-- N
+abbrev pub mostIn : Passes → ℕ
+mostIn p = most (most (p .n) (p .m)) (p .t)

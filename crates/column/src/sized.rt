@@ -1,0 +1,111 @@
+// SIZE and N over the passes of a column that are sewn.
+ghost use mathlib.Core.Path.{_≡_};
+ghost use mathlib.Core.Bool.{true};
+ghost use mathlib.Core.List.{[], _∷_};
+ghost use Prim.Native.Nat.{_≤_};
+ghost use Rattle.geom.specs.Outline.{points};
+ghost use Rattle.satinrules.specs.Column.{onlyIf};
+ghost use Rattle.satinrules.specs.Calls.{passSteps, most};
+ghost use Rattle.column.specs.Sized.{runs, sizedAt, placesIf, passesOf, mostIn};
+use geom::P;
+use pairing::places::Pass;
+use pairing::places::count_places;
+use pairing::places::pass_of;
+use passes::top::spaced;
+use satin::matched::MOST_PAIRS;
+use satinrules::Satin;
+
+// The passes of a column, and how many places each has; none where it isn't sewn.
+pub struct Passes {
+    pub run: Pass,
+    pub n: usize,
+    pub zigzag: Pass,
+    pub m: usize,
+    pub top: Pass,
+    pub t: usize,
+}
+
+// Whether the pass by run_len is sewn: for the centre, for the contour, or for both.
+fn runs(g: Satin) -> bool
+    ensures { λ r. ⌜ r ≡ runs g ⌝ }
+{
+    if g.underlay % 2 == 1 {
+        return true;
+    }
+    g.underlay / 2 % 2 == 1
+}
+
+// Whether the pass that `step` asks for is small enough, where it is sewn.
+fn sized_if(sewn: bool, sync: &[f64], ends: P, step: f64) -> bool
+    ensures { λ r. ⌜ r ≡ sizedAt ends (points (now (sync .entry))) (onlyIf sewn (step ∷ [])) ⌝ }
+{
+    if sewn {
+        let pass = pass_of(sync, ends, step);
+        return pass.n <= MOST_PAIRS;
+    }
+    true
+}
+
+// Whether each pass that is sewn is small enough.
+pub fn column_sized(sync: &[f64], ends: P, g: Satin) -> bool
+    ensures { λ r. ⌜ r ≡ sizedAt ends (points (now (sync .entry))) (passSteps g) ⌝ }
+{
+    let style = g.style;
+    if !sized_if(runs(g), sync, ends, g.run_len) {
+        return false;
+    }
+    let zigzag = g.underlay / 4 % 2 == 1;
+    if !sized_if(zigzag, sync, ends, Satin::ZIGZAG_UNDERLAY_SPACING) {
+        return false;
+    }
+    sized_if(true, sync, ends, spaced(style, g.spacing))
+}
+
+// How many places a pass has; none where it isn't sewn.
+fn places_if(sewn: bool, sync: &[f64], ends: P, pass: Pass) -> usize
+    requires { ⌜ (sewn ≡ true → pass .n ≤ 65536) ⌝ }
+    ensures { λ r. ⌜ r ≡ placesIf sewn ends (points (now (sync .entry))) pass ⌝ }
+{
+    if sewn {
+        return count_places(sync, ends, pass) as usize;
+    }
+    0
+}
+
+// The three passes, each that is sewn with its places counted.
+pub fn passes_of(sync: &[f64], ends: P, g: Satin) -> Passes
+    requires { ⌜ sizedAt ends (points (now sync)) (passSteps g) ≡ true ⌝ }
+    ensures { λ r. ⌜ r ≡ passesOf ends (points (now (sync .entry))) g ⌝ }
+{
+    let style = g.style;
+    let run = pass_of(sync, ends, g.run_len);
+    let n = places_if(runs(g), sync, ends, run);
+    let zigzag = pass_of(sync, ends, Satin::ZIGZAG_UNDERLAY_SPACING);
+    let m = places_if(g.underlay / 4 % 2 == 1, sync, ends, zigzag);
+    let top = pass_of(sync, ends, spaced(style, g.spacing));
+    let t = places_if(true, sync, ends, top);
+    Passes {
+        run,
+        n,
+        zigzag,
+        m,
+        top,
+        t,
+    }
+}
+
+fn larger(m: usize, n: usize) -> usize
+    ensures { λ r. ⌜ r ≡ most m n ⌝ }
+{
+    if m <= n {
+        return n;
+    }
+    m
+}
+
+// The most places of any pass.
+pub fn column_most(p: Passes) -> usize
+    ensures { λ r. ⌜ r ≡ mostIn p ⌝ }
+{
+    larger(larger(p.n, p.m), p.t)
+}

@@ -1,3 +1,0 @@
-mod Loops
-mod Parity
-mod LineSteps

@@ -1,0 +1,153 @@
+-- The turns of the loops: one step, the start and the end of what each works out, and signed sums that fit. Assumes nothing.
+use Prim.Native.Nat.{ℕ, suc, _+_, _-_, _*_, _/_, _%_, _^_, _≤_, _<_}
+use native.Mathlib.Omega.{arith}
+use mathlib.Core.Path.{_≡_, sym, ap, _∙_}
+use mathlib.Core.Bool.{Bool, true, false, _&&_, cond}
+use mathlib.Core.List.{List}
+use lib.Dec.{eqb}
+use lib.ListN.{length, take, drop, getD, length-take, length-drop}
+use lib.Seq.{drop-drop, take-all, length-take-le}
+use lib.IntN.{ℤ, pos, _+ℤ_, natAbs, +ℤ-assoc, +ℤ-idr}
+use lib.Ieee.{Float, nan, le}
+use mir.Syntax.{w64}
+use mir.Val.{SFits, toZ, ofZ}
+use borrow.Author.Tests.{le-ltb, lt-ltb, eq-eqb, ne-eqb}
+use Rattle.seqs.specs.Signed.{natAbs-add, sum-small, back}
+use Rattle.geom.specs.declared.point.P.{P}
+use Rattle.geom.specs.Point.{point}
+use Rattle.geom.specs.Outline.{points, cut}
+use Rattle.geom.specs.OutlineLaws.{cornerAt, points-next, points-end, points-length, points-take, points-drop, points-last, cut-next, cut-none}
+use Rattle.outlines.specs.Winding.{edge, edges, ring, winding}
+use Rattle.outlines.specs.Runs.{chain, lows, oneSide}
+use Rattle.outlines.specs.declared.rule.FillRule.{FillRule}
+use Rattle.geom.specs.Steps.{along}
+use Rattle.outlines.specs.Inside.{pointInside, stepsInside}
+use Rattle.outlines.specs.WindingLaws.{chain-split, chain-small, ring-small}
+
+-- ---- signed sums: w in its bits, and r as a call answers it
+
+pub record Sum (w : ℕ) (r : ℤ) (n : ℕ) : Type 0 where
+  pub fits : SFits w64 (toZ w64 w +ℤ toZ w64 (ofZ w64 r))
+  pub is : toZ w64 (ofZ w64 (toZ w64 w +ℤ toZ w64 (ofZ w64 r))) ≡ toZ w64 w +ℤ r
+  pub small : natAbs (toZ w64 (ofZ w64 (toZ w64 w +ℤ toZ w64 (ofZ w64 r)))) ≤ n
+
+pub sum : (w : ℕ) (r : ℤ) (n : ℕ) → natAbs (toZ w64 w) + natAbs r ≤ n → n < 2 ^ 63 → Sum w r n
+sum w r n h k =
+    let e = back r n (omega arith) k in
+    let d = back (toZ w64 w +ℤ r) n (omega (arith, natAbs-add (toZ w64 w) r)) k in
+    record { fits = rw e (sum-small (toZ w64 w) r n h k); is = rw e d; small = rw (e, d) (omega (arith, natAbs-add (toZ w64 w) r)) }
+
+-- ---- the edges of a chain
+
+module _ (p : P) (l : List Float) where
+  pub chain-start : 1 < length l → chain p (points l) ≡ edges p (cornerAt l 0) (points (drop 2 l))
+  unfolding chain
+  chain-start h = ap (chain p) (points-next l 0 h)
+
+  pub chain-short : length l < 2 → chain p (points l) ≡ pos 0
+  unfolding chain
+  chain-short h = ap (chain p) (points-end l 0 (omega arith))
+
+  pub edges-next : (z : ℤ) (a : P) (i : ℕ) → i + 1 < length l → z +ℤ edges p a (points (drop i l)) ≡ (z +ℤ edge a (cornerAt l i) p) +ℤ edges p (cornerAt l i) (points (drop (i + 2) l))
+  unfolding edges
+  edges-next z a i h = rw (points-next l i h) (sym (+ℤ-assoc z (edge a (cornerAt l i) p) (edges p (cornerAt l i) (points (drop (i + 2) l)))))
+
+  pub edges-end : (z : ℤ) (a : P) (i : ℕ) → length l ≤ i + 1 → z +ℤ edges p a (points (drop i l)) ≡ z
+  unfolding edges
+  edges-end z a i h = rw (points-end l i h) (+ℤ-idr z)
+
+-- ---- how many corners have at most this y
+
+module _ (y : Float) (l : List Float) where
+  pub lows-next : (i : ℕ) → i + 1 < length l → lows y (points (drop i l)) ≡ cond (le (getD l (i + 1) nan) y) 1 0 + lows y (points (drop (i + 2) l))
+  unfolding lows
+  lows-next i h = rw (points-next l i h)
+
+  pub lows-end : (i : ℕ) → length l ≤ i + 1 → lows y (points (drop i l)) ≡ 0
+  unfolding lows
+  lows-end i h = rw (points-end l i h)
+
+  pub none-of-them : lows y (points l) ≡ 0 → true ≡ oneSide y (points l)
+  unfolding oneSide
+  none-of-them h = rw (eq-eqb _ _ h)
+
+  pub all-of-them : (c : ℕ) → lows y (points l) ≡ c → (c ≡ 0 → ⊥) → eqb c (length l / 2) ≡ oneSide y (points l)
+  unfolding oneSide
+  all-of-them c h k = rw (h, ne-eqb c 0 k, points-length l)
+
+-- ---- a ring, eight edges at a time
+
+module _ (p : P) (l : List Float) where
+  pub ring-short : length l < 6 → ring p (points l) ≡ pos 0
+  unfolding ring
+  ring-short h = rw (lt-ltb (length (points l)) 3 (omega (arith, points-length l)))
+
+  -- the edge from the last corner comes first
+  pub ring-start : length l % 2 ≡ 0 → 5 < length l → ring p (points l) ≡ edge (point (getD l (length l - 2) nan) (getD l (length l - 1) nan)) (cornerAt l 0) p +ℤ chain p (points l)
+  unfolding ring edges chain
+  ring-start even h =
+      let q = points-next l 0 (omega arith) in
+      let e : length l - 2 + 1 ≡ length l - 1 = omega arith in
+      rw (le-ltb (length (points l)) 3 (omega (arith, points-length l)), points-last l _ even (omega arith), e, q)
+
+  pub ring-next : (z : ℤ) (i : ℕ) → i + 17 < length l → z +ℤ chain p (points (drop i l)) ≡ (z +ℤ chain p (points (take (i + 18 - i) (drop i l)))) +ℤ chain p (points (drop (i + 16) l))
+  ring-next z i h =
+      let m = drop i l in
+      let n : i + 18 - i ≡ 18 = omega arith in
+      let e : chain p (points m) ≡ chain p (points (take 18 m)) +ℤ chain p (points (drop (i + 16) l)) = chain-split p 8 (points m) (omega (arith, points-length m, length-drop i l)) ∙ rw (← points-take 9 m, ← points-drop 8 m, drop-drop 16 i l) in
+      rw (n, e) (sym (+ℤ-assoc z _ _))
+
+  pub block-small : (i : ℕ) → natAbs (chain p (points (take (i + 18 - i) (drop i l)))) ≤ 8
+  block-small i =
+      let m = take (i + 18 - i) (drop i l) in
+      omega (arith, chain-small p (points m), points-length m, length-take (i + 18 - i) (drop i l))
+
+  -- what is left, as the part that is lent
+  pub ring-rest : (i : ℕ) → i ≤ length l → take (length l - i) (drop i l) ≡ drop i l
+  ring-rest i h = take-all (length l - i) (drop i l) (omega (arith, length-drop i l))
+
+  pub rest-small : (i : ℕ) → i ≤ length l → natAbs (chain p (points (take (length l - i) (drop i l)))) ≤ (length l - i) / 2 - 1
+  rest-small i h =
+      let m = take (length l - i) (drop i l) in
+      omega (arith, chain-small p (points m), points-length m, length-take (length l - i) (drop i l))
+
+-- ---- the rings
+
+module _ (p : P) (ends : List ℕ) (l : List Float) where
+  pub rings-next : (z : ℤ) (a k : ℕ) → k < length ends
+      → z +ℤ winding (cut a (drop k ends) (points l)) p ≡ (z +ℤ ring p (points (take (2 * getD ends k 0 - 2 * a) (drop (2 * a) l)))) +ℤ winding (cut (getD ends k 0) (drop (k + 1) ends) (points l)) p
+  unfolding winding
+  rings-next z a k h = rw (cut-next a ends k l h) (sym (+ℤ-assoc z _ _))
+
+  pub rings-end : (z : ℤ) (a k : ℕ) → length ends ≤ k → z +ℤ winding (cut a (drop k ends) (points l)) p ≡ z
+  unfolding winding
+  rings-end z a k h = rw (cut-none a ends k l h) (+ℤ-idr z)
+
+  module _ (a e : ℕ) where
+    pub part-even : a ≤ e → 2 * e ≤ length l → length (take (2 * e - 2 * a) (drop (2 * a) l)) % 2 ≡ 0
+    part-even h k =
+        let n : length (take (2 * e - 2 * a) (drop (2 * a) l)) ≡ 2 * (e - a) = length-take-le (2 * e - 2 * a) (drop (2 * a) l) (omega (arith, length-drop (2 * a) l)) ∙ omega arith in
+        omega arith
+
+    pub part-small : natAbs (ring p (points (take (2 * e - 2 * a) (drop (2 * a) l)))) ≤ e - a
+    part-small =
+        let m = take (2 * e - 2 * a) (drop (2 * a) l) in
+        omega (arith, ring-small p (points m), points-length m, length-take (2 * e - 2 * a) (drop (2 * a) l))
+
+-- ---- the steps of a segment
+
+module _ (rs : List (List P)) (rule : FillRule) (a b : P) (n i : ℕ) where
+  steps-next : i < n → stepsInside rs rule a b n i (n - i) ≡ (pointInside rs rule (along a b n i) && stepsInside rs rule a b n (i + 1) (n - (i + 1)))
+  unfolding stepsInside
+  steps-next h = let e : n - i ≡ suc (n - (i + 1)) = omega arith in rw e
+
+  -- from what the calls of a turn answer: the step's end p, and whether it is inside
+  pub steps-on : {p : P} {r : Bool} → i < n → p ≡ along a b n i → r ≡ pointInside rs rule p → r ≡ true → stepsInside rs rule a b n i (n - i) ≡ stepsInside rs rule a b n (i + 1) (n - (i + 1))
+  steps-on h e q t = rw (sym (rw e at q) ∙ t) at (steps-next h)
+
+  pub steps-out : {p : P} {r : Bool} → i < n → p ≡ along a b n i → r ≡ pointInside rs rule p → r ≡ false → stepsInside rs rule a b n i (n - i) ≡ false
+  steps-out h e q t = rw (sym (rw e at q) ∙ t) at (steps-next h)
+
+  pub steps-end : n ≤ i → stepsInside rs rule a b n i (n - i) ≡ true
+  unfolding stepsInside
+  steps-end h = let e : n - i ≡ 0 = omega arith in rw e

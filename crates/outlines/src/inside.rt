@@ -1,0 +1,40 @@
+// Whether points lie inside an outline.
+ghost use mathlib.Core.Path.{_≡_};
+ghost use Rattle.geom.specs.Outline.{rings, Layout};
+ghost use Rattle.outlines.specs.Inside.{pointInside, segmentInside};
+use crate::rule::FillRule;
+use crate::winding::winding;
+use geom::P;
+use geom::steps::along;
+use geom::steps::steps;
+
+pub fn point_inside(corners: &[f64], ends: &[usize], rule: FillRule, p: P) -> bool
+    requires { ⌜ Layout (now corners) (now ends) ⌝ }
+    ensures { λ r. ⌜ r ≡ pointInside (rings (now (corners .entry)) (now (ends .entry))) rule p ⌝ }
+{
+    rule.inside(winding(corners, ends, p))
+}
+
+// Whether the points between a and b, one each `step`, are all inside.
+pub fn segment_inside(
+    corners: &[f64],
+    ends: &[usize],
+    rule: FillRule,
+    a: P,
+    b: P,
+    step: f64,
+) -> bool
+    requires { ⌜ Layout (now corners) (now ends) ⌝ }
+    ensures { λ r. ⌜ r ≡ segmentInside (rings (now (corners .entry)) (now (ends .entry))) rule a b step ⌝ }
+{
+    let n = steps(a.dist(b), step);
+    let mut i = 1;
+    while i < n {
+        if point_inside(corners, ends, rule, along(a, b, n, i)) {
+            i += 1;
+            continue;
+        }
+        return false;
+    }
+    true
+}

@@ -1,0 +1,306 @@
+//! Satin columns: `split_long`, `s_stitch`, `pairs`, `column`.
+
+use super::{Function, Operands, hex, list, no_tie, simplicity};
+use crate::expect::DONE;
+use crate::inputs::borders;
+use crate::inputs::column_boundaries as boundaries;
+use crate::inputs::fills::{lend, ways};
+use crate::inputs::outlines::points;
+use crate::inputs::rails::{self, Column, Matched, Path, Rails};
+use crate::ours::satin as ours;
+use crate::owed::satin as owed;
+use crate::owed::{Left, MARGIN, MARK, fresh};
+use crate::rng::Rng;
+use std::cell::RefCell;
+use zigzag::satin;
+
+pub fn functions() -> Vec<Function> {
+    vec![split_long(), s_stitch(), matched(), column()]
+}
+
+fn split_long() -> Function {
+    let calls = Calls {
+        name: "split_long",
+        small: boundaries::paths,
+        large: Vec::new,
+        any: rails::path,
+        need: owed::split_long_need,
+        owed: owed::split_long,
+        slices: 1,
+        ours: |p, lent, count| ours::split_long(p, lent[0], count),
+    };
+    let path = borders::path();
+    let pts = points(&path.line);
+    function(&calls).timed_on(
+        "split_long, 1024 points".into(),
+        move |_| vec![Timed::new(&calls, &path, pts.clone())],
+        |t| satin::split_long(&t.original, t.given.max),
+        Timed::ours,
+    )
+}
+
+fn s_stitch() -> Function {
+    let calls = Calls {
+        name: "s_stitch",
+        small: boundaries::paths,
+        large: Vec::new,
+        any: rails::path,
+        need: owed::s_stitch_need,
+        owed: owed::s_stitch,
+        slices: 1,
+        ours: |p, lent, count| ours::s_stitch(&p.line, lent[0], count),
+    };
+    let path = borders::path();
+    let pts = points(&path.line);
+    function(&calls).timed_on(
+        "s_stitch, 1024 points".into(),
+        move |_| vec![Timed::new(&calls, &path, pts.clone())],
+        |t| satin::s_stitch(&t.original),
+        Timed::ours,
+    )
+}
+
+/// `pairs`.
+fn matched() -> Function {
+    let calls = Calls {
+        name: "pairs",
+        small: boundaries::matched,
+        large: boundaries::large_matched,
+        any: rails::matched,
+        need: owed::pairs_need,
+        owed: owed::pairs,
+        slices: 2,
+        ours: |m, lent, count| {
+            let [work, out] = lent else {
+                unreachable!("two slices")
+            };
+            ours::pairs(m, work, out, count)
+        },
+    };
+    let mut function = function(&calls);
+    for (name, given) in borders::matched() {
+        function = function.timed_on(
+            format!("pairs, {name}"),
+            move |_| vec![Timed::new(&calls, &given, given.rails.original())],
+            |t| satin::pairs(&t.original, t.given.step),
+            Timed::ours,
+        );
+    }
+    function
+}
+
+fn column() -> Function {
+    let calls = Calls {
+        name: "column",
+        small: boundaries::columns,
+        large: boundaries::large_columns,
+        any: rails::column,
+        need: owed::column_need,
+        owed: owed::column,
+        slices: 2,
+        ours: |c, lent, count| {
+            let [work, out] = lent else {
+                unreachable!("two slices")
+            };
+            ours::column(c, work, out, count)
+        },
+    };
+    let mut function = function(&calls);
+    for (name, given) in borders::columns() {
+        function = function.timed_on(
+            format!("column {name}"),
+            move |_| {
+                let original = (given.rails.original(), given.params());
+                vec![Timed::new(&calls, &given, original)]
+            },
+            |t| satin::column(&t.original.0, &t.original.1),
+            Timed::ours,
+        );
+    }
+    function
+}
+
+type Ours<I> = fn(&I, &mut [&mut [f64]], &mut u64) -> u64;
+
+/// One of the calls: its inputs, what it needs and owes, and ours.
+struct Calls<I> {
+    name: &'static str,
+    /// At the boundaries, each lent in every way.
+    small: fn() -> Vec<I>,
+    /// Those that take long: each lent its need and one word less to work in.
+    large: fn() -> Vec<I>,
+    any: fn(&mut Rng) -> I,
+    need: fn(&I) -> Option<Vec<usize>>,
+    owed: fn(&I, &[usize]) -> Left,
+    /// How many slices it is lent: a working slice if it has one, the output.
+    slices: usize,
+    ours: Ours<I>,
+}
+
+impl<I> Clone for Calls<I> {
+    fn clone(&self) -> Self {
+        *self
+    }
+}
+
+impl<I> Copy for Calls<I> {}
+
+/// A call, and how many words it is lent in each slice.
+struct Call<I> {
+    given: I,
+    lent: Vec<usize>,
+}
+
+impl<I: Operands> Operands for Call<I> {
+    fn size(&self) -> (usize, u64) {
+        self.given.size()
+    }
+    fn show(&self) -> String {
+        format!("{} lent {:?}", self.given.show(), self.lent)
+    }
+}
+
+/// Corners first, then how simple the numbers are.
+fn measure(lists: &[&[f64]], settings: &[f64]) -> (usize, u64) {
+    let corners: usize = lists.iter().map(|l| l.len() / 2).sum();
+    let numbers = lists.iter().flat_map(|l| l.iter()).chain(settings);
+    (corners, numbers.copied().map(simplicity).sum())
+}
+
+fn show_rails(r: &Rails) -> String {
+    format!("a {} b {} sync {}", list(&r.a), list(&r.b), list(&r.sync))
+}
+
+impl Operands for Path {
+    fn size(&self) -> (usize, u64) {
+        measure(&[&self.line], &[self.max])
+    }
+    fn show(&self) -> String {
+        format!("line {} max {}", list(&self.line), hex(self.max))
+    }
+}
+
+impl Operands for Matched {
+    fn size(&self) -> (usize, u64) {
+        let r = &self.rails;
+        measure(&[&r.a, &r.b, &r.sync], &[self.step])
+    }
+    fn show(&self) -> String {
+        format!("{} step {}", show_rails(&self.rails), hex(self.step))
+    }
+}
+
+impl Operands for Column {
+    fn size(&self) -> (usize, u64) {
+        let r = &self.rails;
+        let settings = [self.spacing, self.pull, self.run_len, self.split];
+        let (corners, numbers) = measure(&[&r.a, &r.b, &r.sync], &settings);
+        let whole = self.underlay.min(8) + self.style.min(3) + u64::from(self.short_stitches);
+        (corners, numbers + whole)
+    }
+    fn show(&self) -> String {
+        format!(
+            "{} spacing, pull, run_len, split {} underlay {:x} short_stitches {} style {:x}",
+            show_rails(&self.rails),
+            list(&[self.spacing, self.pull, self.run_len, self.split]),
+            self.underlay,
+            self.short_stitches,
+            self.style
+        )
+    }
+}
+
+fn function<I: Operands + Clone + 'static>(calls: &Calls<I>) -> Function {
+    let calls = *calls;
+    let (small, large) = ((calls.small)(), (calls.large)());
+    let make = move |rng: &mut Rng, call: u64| {
+        let slices = calls.slices;
+        let (given, way) = choose(rng, call as usize, &small, &large, slices, calls.any);
+        // A call that is refused anyway is lent some words to leave alone.
+        let refused = || (5..5 + slices).collect();
+        let mut lent = lend(way, &(calls.need)(&given).unwrap_or_else(refused));
+        if way == 1 {
+            lent.iter_mut().for_each(|n| *n += rng.index(40));
+        }
+        Call { given, lent }
+    };
+    Function::new(
+        calls.name,
+        make,
+        move |c: &Call<I>| (calls.owed)(&c.given, &c.lent),
+        move |c: &Call<I>| left(&c.given, &c.lent, calls.ours),
+        no_tie,
+    )
+    .usually(20_000)
+}
+
+/// The boundaries first, each lent in every way; the large ones, with the need
+/// and with one word less of the first slice; and then any.
+fn choose<I: Clone>(
+    rng: &mut Rng,
+    call: usize,
+    small: &[I],
+    large: &[I],
+    slices: usize,
+    any: fn(&mut Rng) -> I,
+) -> (I, usize) {
+    let ways = ways(slices);
+    if let Some(given) = small.get(call / ways) {
+        return (given.clone(), call % ways);
+    }
+    let after = call - small.len() * ways;
+    if let Some(given) = large.get(after / 2) {
+        return (given.clone(), [0, 5][after % 2]);
+    }
+    // The first three ways are enough for every call.
+    let few = rng.one_in(2);
+    (any(rng), rng.index(if few { 3 } else { ways }))
+}
+
+/// What a call of ours leaves in slices of so many words.
+fn left<I>(given: &I, words: &[usize], ours: Ours<I>) -> Left {
+    let floats = |&n: &usize| fresh(n).into_iter().map(f64::from_bits).collect();
+    let mut slices: Vec<Vec<f64>> = words.iter().map(floats).collect();
+    let mut lent: Vec<&mut [f64]> = slices
+        .iter_mut()
+        .zip(words)
+        .map(|(slice, &n)| &mut slice[MARGIN..MARGIN + n])
+        .collect();
+    let mut count = MARK;
+    let answer = ours(given, &mut lent, &mut count);
+    let bits = |slice: Vec<f64>| slice.into_iter().map(f64::to_bits).collect();
+    Left {
+        answer,
+        counts: vec![count],
+        slices: slices.into_iter().map(bits).collect(),
+    }
+}
+
+/// A call in both forms, and its slices, lent again and again as a caller
+/// would, each as long as the need: the Rust makes new lists for each call.
+struct Timed<I, R> {
+    given: I,
+    original: R,
+    call: Ours<I>,
+    slices: RefCell<Vec<Vec<f64>>>,
+}
+
+impl<I: Clone, R> Timed<I, R> {
+    fn new(calls: &Calls<I>, given: &I, original: R) -> Timed<I, R> {
+        let need = (calls.need)(given).expect("a call to be timed is refused");
+        Timed {
+            given: given.clone(),
+            original,
+            call: calls.ours,
+            slices: RefCell::new(need.iter().map(|&n| vec![0.0; n]).collect()),
+        }
+    }
+
+    fn ours(&self) -> u64 {
+        let mut slices = self.slices.borrow_mut();
+        let mut lent: Vec<&mut [f64]> = slices.iter_mut().map(|s| &mut s[..]).collect();
+        let mut count = 0;
+        assert_eq!((self.call)(&self.given, &mut lent, &mut count), DONE);
+        count
+    }
+}

@@ -1,0 +1,182 @@
+//! What the fill's calls owe. The original is asked only where the checks 1 to 5
+//! let the call through.
+
+use super::{Left, fits, left};
+use crate::expect::{
+    self, DONE, LAYOUT, LEN, NUMBER, ROOM, ROWS, SETTING, SHRINK, SIZE, SPACING, STAGGER, TURN,
+    WORK,
+};
+use crate::inputs::fills::Fill;
+use zigzag::fill::{self, Piece};
+use zigzag::geom::Polyline;
+
+/// More points than this are never made: a fill of the greatest size has more
+/// than memory holds.
+const MOST: u64 = 50_000;
+
+/// A fill's working slices: floats, whole numbers.
+const WORKING: usize = 2;
+
+/// What equal crossings go by: the original's sort, or the edge's place.
+#[derive(Clone, Copy)]
+pub enum Order {
+    Original,
+    ByPlace,
+}
+
+/// The table's 1 to 5, which look at no lent slice.
+pub fn gate(f: &Fill) -> u64 {
+    let o = &f.outline;
+    let settings = SPACING.contains(&f.spacing)
+        && LEN.contains(&f.len)
+        && SHRINK.contains(&f.inset)
+        && SHRINK.contains(&f.pull)
+        && STAGGER.contains(&f.stagger);
+    let first = expect::first(&[
+        (LAYOUT, expect::outline(&o.corners, &o.ends)),
+        (NUMBER, expect::numbers(&o.corners)),
+        (SETTING, settings),
+        (TURN, expect::turn(f.cosine, f.sine)),
+    ]);
+    if first != DONE {
+        return first;
+    }
+    expect::first(&[(SIZE, row_count(f.spacing, &kept(f)) <= ROWS)])
+}
+
+/// Top and bottom of each kept edge.
+pub fn kept(f: &Fill) -> Vec<(f64, f64)> {
+    let mut edges = Vec::new();
+    for ring in f.outline.rings().iter().filter(|r| r.len() >= 3) {
+        for (i, a) in ring.iter().enumerate() {
+            let b = ring[(i + 1) % ring.len()];
+            let (a, b) = (a.rotate(f.cosine, -f.sine).y, b.rotate(f.cosine, -f.sine).y);
+            if (a - b).abs() >= 1e-9 {
+                edges.push((a.min(b), a.max(b)));
+            }
+        }
+    }
+    edges
+}
+
+/// Rows from k_lo to k_hi: none without a kept edge.
+pub fn row_count(spacing: f64, edges: &[(f64, f64)]) -> i64 {
+    if edges.is_empty() {
+        return 0;
+    }
+    let top = edges.iter().map(|e| e.0).fold(f64::INFINITY, f64::min);
+    let bottom = edges.iter().map(|e| e.1).fold(f64::NEG_INFINITY, f64::max);
+    let k_lo = (top / spacing - 0.5).ceil() as i64;
+    let k_hi = (bottom / spacing - 0.5).floor() as i64;
+    (k_hi - k_lo + 1).max(0)
+}
+
+fn pieces(f: &Fill, order: Order) -> Vec<Piece> {
+    let (rings, rule, params) = (f.outline.rings(), f.rule(), f.params());
+    match order {
+        Order::Original => fill::row_list(&rings, rule, &params),
+        Order::ByPlace => fill::row_list_by_place(&rings, rule, &params),
+    }
+}
+
+fn sections(f: &Fill, order: Order) -> Vec<Polyline> {
+    let (rings, rule, params) = (f.outline.rings(), f.rule(), f.params());
+    match order {
+        Order::Original => fill::tatami(&rings, rule, &params),
+        Order::ByPlace => fill::tatami_by_place(&rings, rule, &params),
+    }
+}
+
+/// Fewer points than this the pieces cannot have: no stitch is longer than len.
+fn points_at_least(pieces: &[Piece], len: f64) -> u64 {
+    let whole = |p: &Piece| ((p.xb - p.xa) / len).floor() as u64;
+    pieces.iter().map(whole).sum()
+}
+
+/// The need of a fill that passed the gate: floats and whole numbers.
+fn work(f: &Fill, pieces: usize) -> [usize; 2] {
+    let edges = kept(f).len();
+    [6 * edges + 4 * pieces, 4 * edges + 6 * pieces]
+}
+
+/// What `tatami` owes where it is lent floats, wholes, floats for points, ends.
+pub fn tatami(f: &Fill, lent: &[usize], order: Order) -> Left {
+    let refused = |answer| left(answer, lent, WORKING, vec![0; 2], &[]);
+    let first = gate(f);
+    if first != DONE {
+        return refused(first);
+    }
+    let pieces = pieces(f, order);
+    if !fits(&work(f, pieces.len()), &lent[..2]) {
+        return refused(WORK);
+    }
+    if 2 * points_at_least(&pieces, f.len) > lent[2] as u64 {
+        return refused(ROOM);
+    }
+    let mut points = Vec::new();
+    let mut ends = Vec::new();
+    for section in sections(f, order) {
+        points.extend(section.iter().flat_map(|p| [p.x.to_bits(), p.y.to_bits()]));
+        ends.push(points.len() as u64 / 2);
+    }
+    if !fits(&[points.len(), ends.len()], &lent[2..]) {
+        return refused(ROOM);
+    }
+    let counts = vec![ends.len() as u64, points.len() as u64 / 2];
+    left(DONE, lent, WORKING, counts, &[points, ends])
+}
+
+/// What `row_list` owes where it is lent floats, wholes, floats for y, xa and
+/// xb, row numbers, section numbers.
+pub fn row_list(f: &Fill, lent: &[usize], order: Order) -> Left {
+    let refused = |answer| left(answer, lent, WORKING, vec![0], &[]);
+    let first = gate(f);
+    if first != DONE {
+        return refused(first);
+    }
+    let pieces = pieces(f, order);
+    let n = pieces.len();
+    if !fits(&work(f, n), &lent[..2]) {
+        return refused(WORK);
+    }
+    if !fits(&[3 * n, n, n], &lent[2..]) {
+        return refused(ROOM);
+    }
+    let numbers = |p: &Piece| [p.y, p.xa, p.xb].map(f64::to_bits);
+    let outputs = [
+        pieces.iter().flat_map(numbers).collect(),
+        pieces.iter().map(|p| p.k as u64).collect(),
+        pieces.iter().map(|p| p.section as u64).collect(),
+    ];
+    left(DONE, lent, WORKING, vec![n as u64], &outputs)
+}
+
+/// Whether the original leaves the answer open: under NonZero, a row with
+/// crossings of opposite direction and equal x.
+pub fn tied(f: &Fill) -> bool {
+    f.rule == 0 && gate(f) == DONE && fill::ties(&f.outline.rings(), &f.params()) > 0
+}
+
+/// What `tatami` needs of each slice to be done; nothing where it is refused
+/// whatever it is lent. Past `MOST` points it says less than the need.
+pub fn tatami_need(f: &Fill) -> Option<Vec<usize>> {
+    let pieces = gated(f)?;
+    let [floats, wholes] = work(f, pieces.len());
+    if points_at_least(&pieces, f.len) > MOST {
+        return Some(vec![floats, wholes, 100, pieces.len()]);
+    }
+    let sections = sections(f, Order::ByPlace);
+    let points: usize = sections.iter().map(Vec::len).sum();
+    Some(vec![floats, wholes, 2 * points, sections.len()])
+}
+
+/// The same of `row_list`.
+pub fn row_list_need(f: &Fill) -> Option<Vec<usize>> {
+    let n = gated(f)?.len();
+    let [floats, wholes] = work(f, n);
+    Some(vec![floats, wholes, 3 * n, n, n])
+}
+
+fn gated(f: &Fill) -> Option<Vec<Piece>> {
+    (gate(f) == DONE).then(|| pieces(f, Order::ByPlace))
+}

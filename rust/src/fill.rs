@@ -1,0 +1,123 @@
+//! Tatami fill, and the row list that it sews.
+
+use crate::raw::{beahcerot_row_list, beahcerot_tatami};
+use crate::room::{Room, lend};
+use crate::{FillRule, Polyline, Refusal, lines, outline};
+
+#[derive(Clone, Debug)]
+pub struct FillParams {
+    /// Row direction, radians.
+    pub angle: f64,
+    /// Distance between rows, units.
+    pub spacing: f64,
+    /// Max stitch length along a row, units.
+    pub len: f64,
+    /// Shrink each row end by this much (for underlay), units.
+    pub inset: f64,
+    /// Extend each row end by this much (pull compensation), units.
+    pub pull: f64,
+    /// Number of rows in the stagger cycle (tatami pattern).
+    pub stagger: u32,
+    /// Sew rows from the bottom up (for caps: push puckering away from the brim seam).
+    pub bottom_up: bool,
+}
+
+/// A kept piece of a row.
+#[derive(Clone, Copy, Debug, PartialEq)]
+pub struct Piece {
+    pub row: i64,
+    pub y: f64,
+    pub xa: f64,
+    pub xb: f64,
+    pub section: usize,
+}
+
+/// A first guess of the room that a fill needs: a few pieces for each corner.
+fn guess(corners: usize) -> Room {
+    Room { work: 16 * corners + 1024, out: 64 * corners + 1024 }
+}
+
+/// One stitched polyline per section, in original coordinates.
+pub fn tatami(rings: &[Polyline], rule: FillRule, p: &FillParams) -> Result<Vec<Polyline>, Refusal> {
+    let (corners, ends) = outline(rings);
+    lend(guess(corners.len()), |room| {
+        let (mut floats, mut wholes) = (vec![0.0; room.work], vec![0; room.work]);
+        let (mut out, mut stops) = (vec![0.0; room.out], vec![0; room.out]);
+        let (mut sections, mut count) = (0, 0);
+        let answer = unsafe {
+            beahcerot_tatami(
+                corners.as_ptr(),
+                corners.len(),
+                ends.as_ptr(),
+                ends.len(),
+                rule.number(),
+                p.spacing,
+                p.len,
+                p.inset,
+                p.pull,
+                p.angle.cos(),
+                p.angle.sin(),
+                p.stagger.into(),
+                p.bottom_up,
+                floats.as_mut_ptr(),
+                floats.len(),
+                wholes.as_mut_ptr(),
+                wholes.len(),
+                out.as_mut_ptr(),
+                out.len(),
+                stops.as_mut_ptr(),
+                stops.len(),
+                &mut sections,
+                &mut count,
+            )
+        };
+        (answer, lines(&out, &stops[..sections as usize]))
+    })
+}
+
+/// Every kept piece, in the order met, with the section that sews it.
+pub fn row_list(rings: &[Polyline], rule: FillRule, p: &FillParams) -> Result<Vec<Piece>, Refusal> {
+    let (corners, ends) = outline(rings);
+    lend(guess(corners.len()), |room| {
+        let (mut floats, mut wholes) = (vec![0.0; room.work], vec![0; room.work]);
+        let mut ys = vec![0.0; 3 * room.out];
+        let (mut rows, mut sections) = (vec![0; room.out], vec![0; room.out]);
+        let mut count = 0;
+        let answer = unsafe {
+            beahcerot_row_list(
+                corners.as_ptr(),
+                corners.len(),
+                ends.as_ptr(),
+                ends.len(),
+                rule.number(),
+                p.spacing,
+                p.len,
+                p.inset,
+                p.pull,
+                p.angle.cos(),
+                p.angle.sin(),
+                p.stagger.into(),
+                p.bottom_up,
+                floats.as_mut_ptr(),
+                floats.len(),
+                wholes.as_mut_ptr(),
+                wholes.len(),
+                ys.as_mut_ptr(),
+                ys.len(),
+                rows.as_mut_ptr(),
+                rows.len(),
+                sections.as_mut_ptr(),
+                sections.len(),
+                &mut count,
+            )
+        };
+        let piece = |i: usize| Piece {
+            row: rows[i],
+            y: ys[3 * i],
+            xa: ys[3 * i + 1],
+            xb: ys[3 * i + 2],
+            section: sections[i],
+        };
+        (answer, (0..count as usize).map(piece).collect())
+    })
+}

@@ -1,0 +1,28 @@
+//! Room lent until there is enough. The library says WORK or ROOM exactly when
+//! what it was lent is too short, and touches no output then, so that asking
+//! again with more is all there is to do.
+
+use crate::Refusal;
+
+const DONE: u64 = 0;
+const WORK: u64 = 6;
+const ROOM: u64 = 7;
+
+/// How much is lent: elements of each working slice, and of each output.
+#[derive(Clone, Copy)]
+pub struct Room {
+    pub work: usize,
+    pub out: usize,
+}
+
+/// Calls until neither WORK nor ROOM is said.
+pub fn lend<T>(mut room: Room, mut call: impl FnMut(Room) -> (u64, T)) -> Result<T, Refusal> {
+    loop {
+        match call(room) {
+            (DONE, sewn) => return Ok(sewn),
+            (WORK, _) => room.work = 2 * room.work + 64,
+            (ROOM, _) => room.out = 2 * room.out + 64,
+            (number, _) => return Err(Refusal::of(number)),
+        }
+    }
+}

@@ -1,0 +1,161 @@
+//! Satin columns between two rails.
+
+use crate::raw::{beahcerot_column, beahcerot_pairs, beahcerot_s_stitch, beahcerot_split_long};
+use crate::room::{Room, lend};
+use crate::{P, Polyline, Refusal, flat, points};
+
+/// Two rails, and the places where they are kept in step. zigzag's `closed` is read by none of these calls.
+#[derive(Clone, Debug)]
+pub struct Rails {
+    pub a: Polyline,
+    pub b: Polyline,
+    /// Rung positions as (arc length on a, arc length on b), increasing.
+    pub sync: Vec<(f64, f64)>,
+}
+
+#[derive(Clone, Debug)]
+pub struct SatinParams {
+    /// Distance between zigzag peaks along the column, units.
+    pub spacing: f64,
+    /// Extra width per side, units.
+    pub pull: f64,
+    /// Underlay passes: 1 centre, 2 contour, 4 zigzag.
+    pub underlay: u8,
+    /// Underlay stitch length, units.
+    pub run_len: f64,
+    /// Shorten alternate stitches where needle points on a rail crowd together.
+    pub short_stitches: bool,
+    /// Split top stitches longer than this, units.
+    pub split: Option<f64>,
+    /// How the top stitches cross the column.
+    pub style: SatinStyle,
+}
+
+/// The pattern a satin column's top stitches make.
+#[derive(Clone, Copy, Debug, Default, PartialEq, Eq, Hash)]
+pub enum SatinStyle {
+    #[default]
+    Plain,
+    SStitch,
+    Zigzag,
+}
+
+impl SatinStyle {
+    fn number(self) -> u64 {
+        match self {
+            SatinStyle::Plain => 0,
+            SatinStyle::SStitch => 1,
+            SatinStyle::Zigzag => 2,
+        }
+    }
+}
+
+/// Rails in the flat form.
+struct Flat {
+    a: Vec<f64>,
+    b: Vec<f64>,
+    sync: Vec<f64>,
+}
+
+impl Flat {
+    fn of(r: &Rails) -> Flat {
+        let sync = r.sync.iter().flat_map(|&(a, b)| [a, b]).collect();
+        Flat { a: flat(&r.a), b: flat(&r.b), sync }
+    }
+
+    /// A first guess of the room that rails need: a few pairs for each corner.
+    fn guess(&self) -> Room {
+        let corners = self.a.len() + self.b.len();
+        Room { work: 64 * corners + 2 * self.sync.len() + 1024, out: 32 * corners + 1024 }
+    }
+}
+
+/// Matched points on both rails, about `step` apart.
+pub fn pairs(r: &Rails, step: f64) -> Result<Vec<(P, P)>, Refusal> {
+    let f = Flat::of(r);
+    lend(f.guess(), |room| {
+        let (mut work, mut out) = (vec![0.0; room.work], vec![0.0; room.out]);
+        let mut count = 0;
+        let answer = unsafe {
+            beahcerot_pairs(
+                f.a.as_ptr(),
+                f.a.len(),
+                f.b.as_ptr(),
+                f.b.len(),
+                f.sync.as_ptr(),
+                f.sync.len(),
+                step,
+                work.as_mut_ptr(),
+                work.len(),
+                out.as_mut_ptr(),
+                out.len(),
+                &mut count,
+            )
+        };
+        let both = points(&out[..2 * count as usize]);
+        (answer, both.chunks_exact(2).map(|c| (c[0], c[1])).collect())
+    })
+}
+
+/// A satin column: underlay, then the top.
+pub fn column(r: &Rails, p: &SatinParams) -> Result<Polyline, Refusal> {
+    // 0 is how the library is told that there is no split, so a given 0 is a setting outside its range.
+    let split = match p.split {
+        None => 0.0,
+        Some(0.0) => return Err(Refusal::Setting),
+        Some(max) => max,
+    };
+    let f = Flat::of(r);
+    lend(f.guess(), |room| {
+        let (mut work, mut out) = (vec![0.0; room.work], vec![0.0; room.out]);
+        let mut count = 0;
+        let answer = unsafe {
+            beahcerot_column(
+                f.a.as_ptr(),
+                f.a.len(),
+                f.b.as_ptr(),
+                f.b.len(),
+                f.sync.as_ptr(),
+                f.sync.len(),
+                p.spacing,
+                p.pull,
+                p.underlay.into(),
+                p.run_len,
+                p.short_stitches,
+                split,
+                p.style.number(),
+                work.as_mut_ptr(),
+                work.len(),
+                out.as_mut_ptr(),
+                out.len(),
+                &mut count,
+            )
+        };
+        (answer, points(&out[..2 * count as usize]))
+    })
+}
+
+/// A path with its long stitches split, the splits of neighbours staggered.
+pub fn split_long(pts: &[P], max: f64) -> Result<Polyline, Refusal> {
+    let line = flat(pts);
+    lend(Room { work: 0, out: 4 * line.len() }, |room| {
+        let mut out = vec![0.0; room.out];
+        let mut count = 0;
+        let answer = unsafe {
+            beahcerot_split_long(line.as_ptr(), line.len(), max, out.as_mut_ptr(), out.len(), &mut count)
+        };
+        (answer, points(&out[..2 * count as usize]))
+    })
+}
+
+/// A path with its stitches bent to an s.
+pub fn s_stitch(pts: &[P]) -> Result<Polyline, Refusal> {
+    let line = flat(pts);
+    lend(Room { work: 0, out: 4 * line.len() }, |room| {
+        let mut out = vec![0.0; room.out];
+        let mut count = 0;
+        let answer =
+            unsafe { beahcerot_s_stitch(line.as_ptr(), line.len(), out.as_mut_ptr(), out.len(), &mut count) };
+        (answer, points(&out[..2 * count as usize]))
+    })
+}
