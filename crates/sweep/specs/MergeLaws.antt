@@ -3,14 +3,14 @@ use Prim.Native.Nat.{ℕ, _+_, _-_, _*_, _≤_, _<_}
 use native.Mathlib.Omega.{arith}
 use mathlib.Core.Path.{_≡_, refl, sym, ap, _∙_}
 use mathlib.Core.Bool.{Bool, true, false, cond}
-use mathlib.Core.Logic.{_⊎_, inl, inr}
-use mathlib.Core.List.{List, [], _∷_, _++_, append-assoc, append-nil, List·Permᴰ, List·Permᴰ·cons, List·Permᴰ·swap, List·Permᴰ·trans, Permᴰ·refl, Permᴰ·symm, Permᴰ·middle, Permᴰ·append-left, Permᴰ·append-right}
-use lib.ListN.{length, take, drop, length-append, length-drop, take-append-drop}
+use mathlib.Core.Logic.{inl, inr}
+use mathlib.Core.List.{List, [], _∷_, _++_, append-assoc, List·Permᴰ, List·Permᴰ·cons, List·Permᴰ·swap, List·Permᴰ·trans, Permᴰ·refl, Permᴰ·symm, Permᴰ·middle, Permᴰ·append-left, Permᴰ·append-right}
+use lib.ListN.{length, take, drop, length-append, length-drop}
 use lib.Seq.{length-take-le, take-all, take-at, drop-at, take-take, take-add, drop-drop, take-append-le, take-append-add}
 use Rattle.seqs.specs.Lists.{fold, insertBack, sortBy, upto, All, Ordered, Strict}
 use Rattle.seqs.specs.Tests.{either, clash}
 use Rattle.seqs.specs.All.{all-map, all-perm, all-append}
-use Rattle.seqs.specs.Sort.{perm-length, sort-perm, sort-ordered, backs-sort, ordered-sort}
+use Rattle.seqs.specs.Sort.{sort-perm, sort-ordered, backs-sort, ordered-sort}
 use Rattle.seqs.specs.Slices.{put}
 use Rattle.seqs.specs.Put.{put-length, put-then}
 use Rattle.seqs.specs.Wrote.{head-length}

@@ -1,4 +1,4 @@
-// All places in the order in which the sweep takes them up: halves put in order and merged, so that no step is quadratic in the edges.
+// All places in the order in which the sweep takes them up: halves put in order and merged, n·log n in the edges.
 ghost use mathlib.Core.Path.{_≡_};
 ghost use Prim.Native.Nat.{_+_, _-_, _*_, _≤_};
 ghost use lib.ListN.{length, take, drop};

@@ -1,5 +1,3 @@
-use mathlib.Core.Path.{_≡_, sym, _∙_}
-use lib.ListN.{take, drop, getD}
 use Rattle.seqs.specs.Reads.{part-next, part-none}
 use Rattle.sweep.specs.Merge.{leftNext}
 use borrow.Author.Needs.{needs}

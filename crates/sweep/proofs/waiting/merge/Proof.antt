@@ -1,10 +1,8 @@
 use Prim.Native.Nat.{_+_, _-_}
 use native.Mathlib.Omega.{arith}
-use lib.ListN.{length-set}
 use Rattle.edges.specs.Table.{edgesIn}
 use Rattle.sweep.specs.Swept.{by}
 use Rattle.sweep.proofs.Merging.{Merging, merging-start, left-there, right-there, merging-left, merging-right, merging-end}
-use borrow.Author.Needs.{needs}
 use Rattle.sweep.proofs.waiting.merge.Statement.{statement}
 use Rattle.sweep.proofs.waiting.merge.Tie as tie
 
