@@ -43,8 +43,8 @@ use Rattle.patterns.specs.Said.{saidBox}
 use Rattle.patterns.specs.SaidLaws.{box-one}
 use Rattle.jobs.specs.declared.job.Parsed.{Parsed}
 use Rattle.jobs.specs.Job.{parsed, corners as Job·corners, ends as Job·ends, left as Job·left}
-use Rattle.jobs.specs.Text.{headLine, pointLine}
 use Rattle.desk.specs.Desk.{jobLeft}
+use Rattle.desk.specs.Listing.{printed}
 
 -- ---- an answer has one meaning
 
@@ -208,12 +208,9 @@ job-outcome bytes corners ends p q =
 pub fill-job-outcome : (bytes : List ℕ) (corners : List Float) (ends : List ℕ) (points : List Float) (stops : List ℕ) (floats : List Float) (wholes : List ℕ) {r r′ : Filled} {p p′ f f′ l l′ : List Float} {e e′ w w′ k k′ : List ℕ} → (left r p e f w ≡ jobLeft bytes (length corners) (length ends) points stops floats wholes) × (l ≡ Job·left (parsed bytes (length corners) (length ends)) (Job·corners bytes) corners) × (k ≡ Job·left (parsed bytes (length corners) (length ends)) (Job·ends bytes) ends) → (left r′ p′ e′ f′ w′ ≡ jobLeft bytes (length corners) (length ends) points stops floats wholes) × (l′ ≡ Job·left (parsed bytes (length corners) (length ends)) (Job·corners bytes) corners) × (k′ ≡ Job·left (parsed bytes (length corners) (length ends)) (Job·ends bytes) ends) → ((r ≡ r′) × (p ≡ p′) × (e ≡ e′) × (f ≡ f′) × (w ≡ w′)) × (l ≡ l′) × (k ≡ k′)
 fill-job-outcome bytes corners ends points stops floats wholes h k = (left-parts (one (h .0) (k .0)), one (h .1) (k .1), one (h .2) (k .2))
 
--- a line's bytes m at the front of out, and their count
-line-one : (m out : List ℕ) {r r′ : ℕ} {o o′ : List ℕ} → (r ≡ length m) × (o ≡ m ++ drop r out) → (r′ ≡ length m) × (o′ ≡ m ++ drop r′ out) → (r ≡ r′) × (o ≡ o′)
-line-one m out p q = let s = one (p .0) (q .0) in (s, p .1 ∙ ap (λ (r : ℕ). m ++ drop r out) s ∙ sym (q .1))
+-- bytes m at the front of out, and their count
+front-one : (m out : List ℕ) {r r′ : ℕ} {o o′ : List ℕ} → (r ≡ length m) × (o ≡ m ++ drop r out) → (r′ ≡ length m) × (o′ ≡ m ++ drop r′ out) → (r ≡ r′) × (o ≡ o′)
+front-one m out p q = let s = one (p .0) (q .0) in (s, p .1 ∙ ap (λ (r : ℕ). m ++ drop r out) s ∙ sym (q .1))
 
-pub head-line-outcome : (answer sections points : ℕ) (out : List ℕ) {r r′ : ℕ} {o o′ : List ℕ} → (r ≡ length (headLine answer sections points)) × (o ≡ headLine answer sections points ++ drop r out) → (r′ ≡ length (headLine answer sections points)) × (o′ ≡ headLine answer sections points ++ drop r′ out) → (r ≡ r′) × (o ≡ o′)
-head-line-outcome answer sections points out = line-one (headLine answer sections points) out
-
-pub point-line-outcome : (section : ℕ) (x y : Float) (out : List ℕ) {r r′ : ℕ} {o o′ : List ℕ} → (r ≡ length (pointLine section x y)) × (o ≡ pointLine section x y ++ drop r out) → (r′ ≡ length (pointLine section x y)) × (o′ ≡ pointLine section x y ++ drop r′ out) → (r ≡ r′) × (o ≡ o′)
-point-line-outcome section x y out = line-one (pointLine section x y) out
+pub printed-outcome : (bytes out : List ℕ) {r r′ : ℕ} {o o′ : List ℕ} → (r ≡ length (printed bytes)) × (o ≡ printed bytes ++ drop r out) → (r′ ≡ length (printed bytes)) × (o′ ≡ printed bytes ++ drop r′ out) → (r ≡ r′) × (o ≡ o′)
+printed-outcome bytes out = front-one (printed bytes) out

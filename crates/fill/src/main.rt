@@ -1,8 +1,14 @@
 // The program `fill`: one job from standard input, its points to standard output. All that decides anything is in `desk`
 // and `jobs`; this reads, lends the slices that document 01 names, and prints.
+ghost use mathlib.Core.Path.{_≡_};
+ghost use mathlib.Core.List.{_++_};
+ghost use Prim.Native.Nat.{_≤_};
+ghost use lib.ListN.{length, drop, replicate};
+ghost use Rattle.numbers.specs.Num.{zero64};
+ghost use Rattle.desk.specs.Desk.{jobLeft};
+ghost use Rattle.desk.specs.Listing.{printed};
 use desk::fill_job;
-use jobs::head_line;
-use jobs::point_line;
+use jobs::listing;
 use libc::STDIN_FILENO;
 use libc::STDOUT_FILENO;
 use tatami::Filled;
@@ -22,45 +28,13 @@ const POINTS: usize = 8192;
 
 const SECTIONS: usize = 512;
 
-fn say_head(r: Filled) {
-    let mut line = [0u8; 64];
-    let n = head_line(r.answer, r.sections, r.points, &mut line);
-    io::write_all(STDOUT_FILENO, &line[..n]);
-}
+// Room for every listing: 63 bytes for the head line, and 55 for each point.
+const LISTING: usize = 225343;
 
-fn say_point(section: u64, x: f64, y: f64) {
-    let mut line = [0u8; 64];
-    let n = point_line(section, x, y, &mut line);
-    io::write_all(STDOUT_FILENO, &line[..n]);
-}
-
-// The points of a section, from one place to another.
-fn say_section(section: usize, points: &[f64], from: usize, to: usize) {
-    let mut i = from;
-    while i < to {
-        if i >= points.len() / 2 {
-            return;
-        }
-        say_point(section as u64, points[2 * i], points[2 * i + 1]);
-        i += 1;
-    }
-}
-
-// Every section, each from where the one before it ends.
-fn say_sections(sections: u64, points: &[f64], stops: &[usize]) {
-    let mut from = 0;
-    let mut s = 0;
-    while s < stops.len() {
-        if s as u64 >= sections {
-            return;
-        }
-        say_section(s, points, from, stops[s]);
-        from = stops[s];
-        s += 1;
-    }
-}
-
-fn fill(bytes: &[u8], points: &mut [f64], stops: &mut [usize]) -> Filled {
+// The job filled.
+fn fill(bytes: &[u8], points: &mut [f64], stops: &mut [usize]) -> Filled
+    ensures { λ r. ⌜ (r ≡ jobLeft (now (bytes .entry)) 2048 255 (now (points .entry)) (now (stops .entry)) (replicate 8192 zero64) (replicate 8192 0) .said) × (now (points .exit) ≡ jobLeft (now (bytes .entry)) 2048 255 (now (points .entry)) (now (stops .entry)) (replicate 8192 zero64) (replicate 8192 0) .points) × (now (stops .exit) ≡ jobLeft (now (bytes .entry)) 2048 255 (now (points .entry)) (now (stops .entry)) (replicate 8192 zero64) (replicate 8192 0) .ends) ⌝ }
+{
     let mut corners = [0.0f64; CORNERS];
     let mut ends = [0usize; RINGS];
     let mut floats = [0.0f64; WORK];
@@ -76,13 +50,29 @@ fn fill(bytes: &[u8], points: &mut [f64], stops: &mut [usize]) -> Filled {
     )
 }
 
-fn main() {
-    let mut bytes = [0u8; BYTES];
+// All that is printed, to the front of `out`; answers how many bytes.
+fn answer(bytes: &[u8], out: &mut [u8]) -> usize
+    requires { ⌜ 225343 ≤ length (now out) ⌝ }
+    ensures { λ n. ⌜ now (out .exit) ≡ printed (now (bytes .entry)) ++ drop n (now (out .entry)) ⌝ }
+    ensures { λ n. ⌜ n ≡ length (printed (now (bytes .entry))) ⌝ }
+{
     let mut points = [0.0f64; POINTS];
     let mut stops = [0usize; SECTIONS];
+    let r = fill(bytes, &mut points, &mut stops);
+    listing(
+        r.answer,
+        r.sections as usize,
+        r.points,
+        &points,
+        &stops,
+        out,
+    )
+}
+
+fn main() {
+    let mut bytes = [0u8; BYTES];
+    let mut out = [0u8; LISTING];
     let n = io::read_full(STDIN_FILENO, &mut bytes);
-    let r = fill(&bytes[..n], &mut points, &mut stops);
-    let sections = r.sections;
-    say_head(r);
-    say_sections(sections, &points, &stops);
+    let k = answer(&bytes[..n], &mut out);
+    io::write_all(STDOUT_FILENO, &out[..k]);
 }

@@ -10,6 +10,7 @@ use borrow.Author.Tests.{lt-ltb, le-ltb}
 use lib.Ieee.{Float, binary64, toBits}
 use Rattle.seqs.specs.Slices.{Put}
 use Rattle.seqs.specs.Front.{front-from, front-push, front-whole, front-end, next}
+use Rattle.seqs.specs.Put.{put-then}
 use Rattle.seqs.specs.Wrote.{head-length}
 use Rattle.seqs.specs.Reads.{take-on}
 use Rattle.jobs.specs.Text.{glyph, digits, places, decimal, hex, headLine, pointLine}
@@ -80,15 +81,13 @@ put-last d d′ at m j v e h p =
     rw e (front-end (front-push f (omega (arith, f .len))))
 
 -- a line of three words, one behind the other
-three : (d₀ d₁ d₂ d₃ line u v w : List ℕ) (a b r : ℕ) → line ≡ u ++ (v ++ w) → a ≡ 0 + length u → b ≡ a + length v → r ≡ b + length w → r ≤ length d₀
-    → Put d₀ d₁ 0 u → Put d₁ d₂ a v → Put d₂ d₃ b w → (r ≡ length line) × (d₃ ≡ line ++ drop r d₀)
-three d₀ d₁ d₂ d₃ line u v w a b r e ea eb er h p₁ p₂ p₃ =
-    let f = front-whole u (v ++ w) d₁ (front-from d₀ (u ++ (v ++ w)) 0 (omega arith)) (omega arith) p₁ in
-    let g = front-whole v w d₂ (rw (sym ea) at f) (omega (arith, f .len)) p₂ in
-    let o = rw (sym eb) at g in
-    let t = front-whole w [] d₃ (rw (sym (append-nil w)) at o) (omega (arith, o .len)) p₃ in
-    let n : r ≡ length line = omega (arith, ap length e, length-append u (v ++ w), length-append v w) in
-    (n, rw (n, e) (rw (append-nil w) at (front-end t)))
+three : (d₀ d₁ d₂ d₃ line u v w : List ℕ) (k a b r : ℕ) → line ≡ u ++ (v ++ w) → a ≡ k + length u → b ≡ a + length v → r ≡ b + length w → r ≤ length d₀
+    → Put d₀ d₁ k u → Put d₁ d₂ a v → Put d₂ d₃ b w → Put d₀ d₃ k line × (r ≡ k + length line)
+three d₀ d₁ d₂ d₃ line u v w k a b r e ea eb er h p₁ p₂ p₃ =
+    let l = length-append u v in
+    let two = put-then d₀ d₁ d₂ u v k a (omega arith) p₁ ea p₂ in
+    let all = put-then d₀ d₂ d₃ (u ++ v) w k b (omega arith) two (omega arith) p₃ in
+    (rw (e, ← append-assoc u v w) all, omega (arith, ap length e, length-append u (v ++ w), length-append v w))
 
 -- a number's digits, and a float's
 pub decimal-is : (n k : ℕ) → k ≡ places 19 n → digits 10 k n ≡ decimal n
@@ -115,16 +114,16 @@ point-words : (s : ℕ) (x y : Float) → pointLine s x y ≡ (decimal s ++ 32 �
 unfolding pointLine
 point-words s x y = simp append-assoc
 
-module _ (d₀ d₁ d₂ d₃ : List ℕ) (a b r : ℕ) (h : r ≤ length d₀) where
-  pub head-is : (x y z : ℕ) → a ≡ 0 + length (decimal x ++ 32 ∷ []) → b ≡ a + length (decimal y ++ 32 ∷ []) → r ≡ b + length (decimal z ++ 10 ∷ [])
-      → Put d₀ d₁ 0 (decimal x ++ 32 ∷ []) → Put d₁ d₂ a (decimal y ++ 32 ∷ []) → Put d₂ d₃ b (decimal z ++ 10 ∷ [])
-      → (r ≡ length (headLine x y z)) × (d₃ ≡ headLine x y z ++ drop r d₀)
-  head-is x y z ea eb er = three d₀ d₁ d₂ d₃ (headLine x y z) (decimal x ++ 32 ∷ []) (decimal y ++ 32 ∷ []) (decimal z ++ 10 ∷ []) a b r (head-words x y z) ea eb er h
+module _ (d₀ d₁ d₂ d₃ : List ℕ) (k a b r : ℕ) (h : r ≤ length d₀) where
+  pub head-is : (x y z : ℕ) → a ≡ k + length (decimal x ++ 32 ∷ []) → b ≡ a + length (decimal y ++ 32 ∷ []) → r ≡ b + length (decimal z ++ 10 ∷ [])
+      → Put d₀ d₁ k (decimal x ++ 32 ∷ []) → Put d₁ d₂ a (decimal y ++ 32 ∷ []) → Put d₂ d₃ b (decimal z ++ 10 ∷ [])
+      → Put d₀ d₃ k (headLine x y z) × (r ≡ k + length (headLine x y z))
+  head-is x y z ea eb er = three d₀ d₁ d₂ d₃ (headLine x y z) (decimal x ++ 32 ∷ []) (decimal y ++ 32 ∷ []) (decimal z ++ 10 ∷ []) k a b r (head-words x y z) ea eb er h
 
-  pub point-is : (s : ℕ) (x y : Float) → a ≡ 0 + length (decimal s ++ 32 ∷ []) → b ≡ a + 17 → r ≡ b + 17
-      → Put d₀ d₁ 0 (decimal s ++ 32 ∷ []) → Put d₁ d₂ a (hex x ++ 32 ∷ []) → Put d₂ d₃ b (hex y ++ 10 ∷ [])
-      → (r ≡ length (pointLine s x y)) × (d₃ ≡ pointLine s x y ++ drop r d₀)
+  pub point-is : (s : ℕ) (x y : Float) → a ≡ k + length (decimal s ++ 32 ∷ []) → b ≡ a + 17 → r ≡ b + 17
+      → Put d₀ d₁ k (decimal s ++ 32 ∷ []) → Put d₁ d₂ a (hex x ++ 32 ∷ []) → Put d₂ d₃ b (hex y ++ 10 ∷ [])
+      → Put d₀ d₃ k (pointLine s x y) × (r ≡ k + length (pointLine s x y))
   point-is s x y ea eb er =
       let u = longer (hex x) 16 32 (hex-length x) in
       let v = longer (hex y) 16 10 (hex-length y) in
-      three d₀ d₁ d₂ d₃ (pointLine s x y) (decimal s ++ 32 ∷ []) (hex x ++ 32 ∷ []) (hex y ++ 10 ∷ []) a b r (point-words s x y) ea (omega (arith, u)) (omega (arith, v)) h
+      three d₀ d₁ d₂ d₃ (pointLine s x y) (decimal s ++ 32 ∷ []) (hex x ++ 32 ∷ []) (hex y ++ 10 ∷ []) k a b r (point-words s x y) ea (omega (arith, u)) (omega (arith, v)) h

@@ -1,12 +1,12 @@
 // Everything of the program `fill` but the fill: a job read from its bytes, and the lines that are printed.
 mod frame;
 pub mod job;
-pub mod line;
+mod line;
+mod lines;
 mod number;
 mod rings;
 
 pub use job::Job;
 pub use job::Parsed;
 pub use job::parse;
-pub use line::head_line;
-pub use line::point_line;
+pub use lines::listing;

@@ -1,8 +1,8 @@
-// The lines that are printed, each put to the front of a lent array.
+// The lines that are printed, each put into a lent slice.
 ghost use mathlib.Core.Path.{_≡_};
 ghost use mathlib.Core.List.{[], _∷_, _++_};
 ghost use Prim.Native.Nat.{_+_, _≤_, _<_};
-ghost use lib.ListN.{length, drop};
+ghost use lib.ListN.{length};
 ghost use Rattle.seqs.specs.Slices.{Put};
 ghost use Rattle.jobs.specs.Text.{glyph as Text·glyph, digits, places as Text·places, decimal, hex, headLine, pointLine};
 
@@ -69,22 +69,24 @@ fn put_hex(x: f64, last: u8, out: &mut [u8], at: usize) -> usize
     at + 17
 }
 
-// "answer sections points"; answers the line's length.
-pub fn head_line(answer: u64, sections: u64, points: u64, out: &mut [u8; 64]) -> usize
-    ensures { λ r. ⌜ r ≡ length (headLine answer sections points) ⌝ }
-    ensures { λ r. ⌜ now (out .exit) ≡ headLine answer sections points ++ drop r (now (out .entry)) ⌝ }
+// "answer sections points" to the front; answers the line's length.
+pub fn put_head(answer: u64, sections: u64, points: u64, out: &mut [u8]) -> usize
+    requires { ⌜ 63 ≤ length (now out) ⌝ }
+    ensures { λ _. ⌜ Put (now (out .entry)) (now (out .exit)) 0 (headLine answer sections points) ⌝ }
+    ensures { λ r. ⌜ (r ≡ 0 + length (headLine answer sections points)) × (r ≤ 63) ⌝ }
 {
     let a = put_decimal(answer, b' ', out, 0);
     let b = put_decimal(sections, b' ', out, a);
     put_decimal(points, b'\n', out, b)
 }
 
-// "section x y"; answers the line's length.
-pub fn point_line(section: u64, x: f64, y: f64, out: &mut [u8; 64]) -> usize
-    ensures { λ r. ⌜ r ≡ length (pointLine section x y) ⌝ }
-    ensures { λ r. ⌜ now (out .exit) ≡ pointLine section x y ++ drop r (now (out .entry)) ⌝ }
+// "section x y" from a place on; answers the place behind it.
+pub fn put_point(section: u64, x: f64, y: f64, out: &mut [u8], at: usize) -> usize
+    requires { ⌜ at + 55 ≤ length (now out) ⌝ }
+    ensures { λ _. ⌜ Put (now (out .entry)) (now (out .exit)) at (pointLine section x y) ⌝ }
+    ensures { λ r. ⌜ (r ≡ at + length (pointLine section x y)) × (r ≤ at + 55) ⌝ }
 {
-    let a = put_decimal(section, b' ', out, 0);
+    let a = put_decimal(section, b' ', out, at);
     let b = put_hex(x, b' ', out, a);
     put_hex(y, b'\n', out, b)
 }

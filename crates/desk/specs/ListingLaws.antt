@@ -1,0 +1,73 @@
+-- What a job leaves can be listed: each section ends where the next starts, and within the points. Assumes nothing.
+use mathlib.Core.Path.{_≡_, refl, sym, ap, subst}
+use mathlib.Core.Bool.{Bool, true, false, cond}
+use mathlib.Core.List.{List, [], _∷_, _++_}
+use Prim.Native.Nat.{ℕ, suc, _+_, _*_, _≤_, zero-le}
+use native.Mathlib.Omega.{arith}
+use lib.Dec.{eqb}
+use lib.ListN.{length, take, drop, length-append}
+use lib.Seq.{take-at}
+use lib.Ieee.{Float}
+use Rattle.refusal.specs.Refusal.{DONE}
+use Rattle.numbers.specs.Num.{zero64}
+use Rattle.geom.specs.declared.point.P.{P}
+use Rattle.geom.specs.Sewing.{flat}
+use Rattle.geom.specs.SewingLaws.{flat-length}
+use Rattle.rules.specs.Calls.{worked, sewnPoints, sewnEnds}
+use Rattle.jobs.specs.declared.job.Parsed.{Parsed}
+use Rattle.jobs.specs.declared.job.Parsed.the-variants.{Done, Refused}
+use Rattle.jobs.specs.Job.{parsed}
+use Rattle.jobs.specs.Text.{listing, Ends}
+use Rattle.tatami.specs.declared.Filled.{Filled}
+use Rattle.tatami.specs.Left.{Left, left, leftBy, tatamiLeft}
+use Rattle.desk.specs.Desk.{leftOf, jobLeft}
+use Rattle.desk.specs.Listing.{listingOf, Told}
+
+ends-length : (n : ℕ) (ss : List (List P)) → length (sewnEnds n ss) ≡ length ss
+unfolding sewnEnds
+ends-length n [] = refl
+ends-length n (s ∷ ss) = ap suc (ends-length (n + length s) ss)
+
+-- the ends of sections don't fall, and are places of their points
+ends-climb : (l : List Float) (n : ℕ) (ss : List (List P)) → 2 * (n + length (sewnPoints ss)) ≤ length l → Ends l n (sewnEnds n ss)
+unfolding sewnEnds sewnPoints
+ends-climb l n [] h = tt
+ends-climb l n (s ∷ ss) h =
+    let e = length-append s (sewnPoints ss) in
+    (omega arith, omega (arith, e), ends-climb l (n + length s) ss (omega (arith, e)))
+
+module _ (points floats : List Float) (stops wholes : List ℕ) where
+  -- the outputs after 0
+  abbrev sewn : List (List P) → List Float
+  sewn ss = flat (sewnPoints ss) ++ drop (length (flat (sewnPoints ss))) points
+
+  abbrev ended : List (List P) → List ℕ
+  ended ss = sewnEnds 0 ss ++ drop (length (sewnEnds 0 ss)) stops
+
+  by-told : (n : ℕ) (ss : List (List P)) → Told (leftBy n ss points stops floats wholes)
+  by-told n ss = go (eqb n DONE)
+    where
+      go : (b : Bool) → Told (left (record { answer = n; sections = cond b (length ss) 0; points = cond b (length (sewnPoints ss)) 0 }) (cond b (sewn ss) points) (cond b (ended ss) stops) (worked n zero64 floats) (worked n 0 wholes))
+      go true = record {
+        sections = omega (arith, ends-length 0 ss, length-append (sewnEnds 0 ss) (drop (length (sewnEnds 0 ss)) stops));
+        ends = subst (Ends (sewn ss) 0) (sym (take-at (sewnEnds 0 ss) (drop (length (sewnEnds 0 ss)) stops) (length ss) (ends-length 0 ss)))
+            (ends-climb (sewn ss) 0 ss (omega (arith, flat-length (sewnPoints ss), length-append (flat (sewnPoints ss)) (drop (length (flat (sewnPoints ss))) points))));
+      }
+      go false = record { sections = zero-le; ends = tt }
+
+  of-told : (s : List ℕ) (r : Parsed) → Told (leftOf s r points stops floats wholes)
+  unfolding tatamiLeft
+  of-told s (Done j) = by-told _ _
+  of-told s (Refused n) = record { sections = zero-le; ends = tt }
+
+  pub job-told : (s : List ℕ) (f e : ℕ) → Told (jobLeft s f e points stops floats wholes)
+  unfolding jobLeft
+  job-told s f e = of-told s (parsed s f e)
+
+-- of what the code has in hand
+module _ (l : Left) {r : Filled} {points : List Float} {stops : List ℕ} (a : r ≡ l .said) (b : points ≡ l .points) (c : stops ≡ l .ends) where
+  pub told-read : Told l → (r .sections ≤ length stops) × Ends points 0 (take (r .sections) stops)
+  told-read t = rw (a, b, c) (t .sections, t .ends)
+
+  pub listing-is : listing (r .answer) (r .sections) (r .points) points stops ≡ listingOf l
+  listing-is i = listing (a i .answer) (a i .sections) (a i .points) (b i) (c i)
