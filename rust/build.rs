@@ -9,6 +9,9 @@ fn main() {
     let given = env::var("BEAHCEROT_LIB").unwrap_or("../target/staticlib".into());
     let folder = PathBuf::from(env::var("CARGO_MANIFEST_DIR").unwrap()).join(given);
     println!("cargo::rerun-if-env-changed=BEAHCEROT_LIB");
-    println!("cargo::rerun-if-changed={}", folder.join("libexports.a").display());
+    println!(
+        "cargo::rerun-if-changed={}",
+        folder.join("libexports.a").display()
+    );
     println!("cargo::rustc-link-search=native={}", folder.display());
 }

@@ -1,77 +1,52 @@
 //! The proved library: its exported C functions, and a safe wrapper for each.
-//! Nothing checks these declarations against the archive, so this is the one
-//! place to look at when a function's arguments change.
+//! The declarations are those of the Rust crate, which `tools/header` makes from
+//! the library's own text and the gate holds to it.
 
-mod raw {
-    #[link(name = "exports", kind = "static")]
-    unsafe extern "C" {
-        // The total face: every f64, NaN and infinities among them.
-        pub safe fn beahcerot_root(x: f64) -> f64;
-        pub safe fn beahcerot_floor(x: f64) -> f64;
-        pub safe fn beahcerot_ceil(x: f64) -> f64;
-        pub safe fn beahcerot_smaller(a: f64, b: f64) -> f64;
-        pub safe fn beahcerot_larger(a: f64, b: f64) -> f64;
-        pub safe fn beahcerot_magnitude(x: f64) -> f64;
-        // A bool, read as its byte: a byte other than 0 and 1 must be seen, not assumed away.
-        pub safe fn beahcerot_before(a: f64, b: f64) -> u8;
-        pub safe fn beahcerot_to_i64(x: f64) -> i64;
-        pub safe fn beahcerot_to_u64(x: f64) -> u64;
-        pub safe fn beahcerot_of_i64(n: i64) -> f64;
-        pub safe fn beahcerot_of_u64(n: u64) -> f64;
-
-        // The public face: document 01's number, and the value stored only on 0.
-        pub fn beahcerot_leaf_root(x: f64, value: *mut f64) -> u64;
-        pub fn beahcerot_leaf_floor(x: f64, value: *mut f64) -> u64;
-        pub fn beahcerot_leaf_ceil(x: f64, value: *mut f64) -> u64;
-        pub fn beahcerot_leaf_magnitude(x: f64, value: *mut f64) -> u64;
-        pub fn beahcerot_leaf_smaller(a: f64, b: f64, value: *mut f64) -> u64;
-        pub fn beahcerot_leaf_larger(a: f64, b: f64, value: *mut f64) -> u64;
-        pub fn beahcerot_leaf_order(a: f64, b: f64, place: *mut u64) -> u64;
-    }
-}
+#[path = "../../rust/src/raw.rs"]
+mod raw;
 
 pub fn root(x: f64) -> f64 {
-    raw::beahcerot_root(x)
+    unsafe { raw::beahcerot_root(x) }
 }
 
 pub fn floor(x: f64) -> f64 {
-    raw::beahcerot_floor(x)
+    unsafe { raw::beahcerot_floor(x) }
 }
 
 pub fn ceil(x: f64) -> f64 {
-    raw::beahcerot_ceil(x)
+    unsafe { raw::beahcerot_ceil(x) }
 }
 
 pub fn smaller(a: f64, b: f64) -> f64 {
-    raw::beahcerot_smaller(a, b)
+    unsafe { raw::beahcerot_smaller(a, b) }
 }
 
 pub fn larger(a: f64, b: f64) -> f64 {
-    raw::beahcerot_larger(a, b)
+    unsafe { raw::beahcerot_larger(a, b) }
 }
 
 pub fn magnitude(x: f64) -> f64 {
-    raw::beahcerot_magnitude(x)
+    unsafe { raw::beahcerot_magnitude(x) }
 }
 
 pub fn to_i64(x: f64) -> i64 {
-    raw::beahcerot_to_i64(x)
+    unsafe { raw::beahcerot_to_i64(x) }
 }
 
 pub fn to_u64(x: f64) -> u64 {
-    raw::beahcerot_to_u64(x)
+    unsafe { raw::beahcerot_to_u64(x) }
 }
 
 pub fn of_i64(n: i64) -> f64 {
-    raw::beahcerot_of_i64(n)
+    unsafe { raw::beahcerot_of_i64(n) }
 }
 
 pub fn of_u64(n: u64) -> f64 {
-    raw::beahcerot_of_u64(n)
+    unsafe { raw::beahcerot_of_u64(n) }
 }
 
 pub fn before(a: f64, b: f64) -> bool {
-    match raw::beahcerot_before(a, b) {
+    match unsafe { raw::beahcerot_before(a, b) } {
         0 => false,
         1 => true,
         byte => panic!("beahcerot_before answered the byte {byte}, which is no bool"),
@@ -112,73 +87,14 @@ pub fn leaf_order(a: f64, b: f64, place: &mut u64) -> u64 {
 /// The geometry.
 /// A slice passes as a pointer and a length; a point as x and y.
 pub mod geom {
+    use super::raw::{
+        beahcerot_cross, beahcerot_dist, beahcerot_dot, beahcerot_inside, beahcerot_len,
+        beahcerot_lerp, beahcerot_norm, beahcerot_perp, beahcerot_point_inside,
+        beahcerot_polyline_length, beahcerot_resample_keep_corners, beahcerot_rotate,
+        beahcerot_segment_inside, beahcerot_winding,
+    };
     use crate::inputs::outlines::Outline;
     use zigzag::geom::{FillRule, P};
-
-    unsafe extern "C" {
-        // One number.
-        fn beahcerot_dot(ax: f64, ay: f64, bx: f64, by: f64, value: *mut f64) -> u64;
-        fn beahcerot_len(x: f64, y: f64, value: *mut f64) -> u64;
-        fn beahcerot_dist(ax: f64, ay: f64, bx: f64, by: f64, value: *mut f64) -> u64;
-        fn beahcerot_cross(ax: f64, ay: f64, bx: f64, by: f64, value: *mut f64) -> u64;
-        // One point.
-        fn beahcerot_norm(x: f64, y: f64, px: *mut f64, py: *mut f64) -> u64;
-        fn beahcerot_perp(x: f64, y: f64, px: *mut f64, py: *mut f64) -> u64;
-        fn beahcerot_rotate(x: f64, y: f64, c: f64, s: f64, px: *mut f64, py: *mut f64) -> u64;
-        fn beahcerot_lerp(
-            ax: f64,
-            ay: f64,
-            bx: f64,
-            by: f64,
-            t: f64,
-            px: *mut f64,
-            py: *mut f64,
-        ) -> u64;
-        // Outlines. A rule is 0 for NonZero, 1 for EvenOdd; inside is 0 or 1.
-        fn beahcerot_inside(rule: u64, winding: i64) -> u64;
-        fn beahcerot_winding(
-            corners: *const f64,
-            corners_len: usize,
-            ends: *const u64,
-            ends_len: usize,
-            x: f64,
-            y: f64,
-            value: *mut i64,
-        ) -> u64;
-        fn beahcerot_point_inside(
-            corners: *const f64,
-            corners_len: usize,
-            ends: *const u64,
-            ends_len: usize,
-            rule: u64,
-            x: f64,
-            y: f64,
-            value: *mut u64,
-        ) -> u64;
-        fn beahcerot_segment_inside(
-            corners: *const f64,
-            corners_len: usize,
-            ends: *const u64,
-            ends_len: usize,
-            rule: u64,
-            ax: f64,
-            ay: f64,
-            bx: f64,
-            by: f64,
-            step: f64,
-            value: *mut u64,
-        ) -> u64;
-        // Lines.
-        fn beahcerot_polyline_length(line: *const f64, line_len: usize, value: *mut f64) -> u64;
-        fn beahcerot_resample_keep_corners(
-            line: *const f64,
-            line_len: usize,
-            len: f64,
-            out: *mut f64,
-            out_len: usize,
-            count: *mut u64,
-        ) -> u64;
-    }
 
     // Slices and `&mut`s are whole and unshared for as long as the call lasts.
 
@@ -224,7 +140,17 @@ pub mod geom {
 
     pub fn winding(o: &Outline, p: P, value: &mut i64) -> u64 {
         let (c, e) = (&o.corners, &o.ends);
-        unsafe { beahcerot_winding(c.as_ptr(), c.len(), e.as_ptr(), e.len(), p.x, p.y, value) }
+        unsafe {
+            beahcerot_winding(
+                c.as_ptr(),
+                c.len(),
+                e.as_ptr().cast(),
+                e.len(),
+                p.x,
+                p.y,
+                value,
+            )
+        }
     }
 
     pub fn point_inside(o: &Outline, rule: FillRule, p: P, value: &mut u64) -> u64 {
@@ -233,7 +159,7 @@ pub mod geom {
             beahcerot_point_inside(
                 c.as_ptr(),
                 c.len(),
-                e.as_ptr(),
+                e.as_ptr().cast(),
                 e.len(),
                 rule,
                 p.x,
@@ -256,7 +182,7 @@ pub mod geom {
             beahcerot_segment_inside(
                 c.as_ptr(),
                 c.len(),
-                e.as_ptr(),
+                e.as_ptr().cast(),
                 e.len(),
                 rule,
                 a.x,
@@ -270,14 +196,14 @@ pub mod geom {
     }
 
     pub fn polyline_length(line: &[f64], value: &mut f64) -> u64 {
-        unsafe { beahcerot_polyline_length(line.as_ptr(), line.len(), value) }
+        unsafe { beahcerot_polyline_length(line.as_ptr().cast(), line.len(), value) }
     }
 
     pub fn resample_keep_corners(line: &[f64], len: f64, out: &mut [f64], count: &mut u64) -> u64 {
         let room = out.len();
         unsafe {
             beahcerot_resample_keep_corners(
-                line.as_ptr(),
+                line.as_ptr().cast(),
                 line.len(),
                 len,
                 out.as_mut_ptr(),
@@ -290,19 +216,7 @@ pub mod geom {
 
 /// Running stitch.
 pub mod stroke {
-    unsafe extern "C" {
-        fn beahcerot_running(
-            line: *const f64,
-            line_len: usize,
-            closed: bool,
-            len: f64,
-            passes: u64,
-            out: *mut f64,
-            out_len: usize,
-            count: *mut u64,
-        ) -> u64;
-    }
-
+    use super::raw::beahcerot_running;
     pub fn running(
         line: &[f64],
         closed: bool,
@@ -314,7 +228,7 @@ pub mod stroke {
         let room = out.len();
         unsafe {
             beahcerot_running(
-                line.as_ptr(),
+                line.as_ptr().cast(),
                 line.len(),
                 closed,
                 len,
@@ -329,61 +243,8 @@ pub mod stroke {
 
 /// The fill.
 pub mod fill {
+    use super::raw::{beahcerot_row_list, beahcerot_tatami};
     use crate::inputs::fills::Fill;
-
-    unsafe extern "C" {
-        fn beahcerot_tatami(
-            corners: *const f64,
-            corners_len: usize,
-            ends: *const u64,
-            ends_len: usize,
-            rule: u64,
-            spacing: f64,
-            len: f64,
-            inset: f64,
-            pull: f64,
-            cosine: f64,
-            sine: f64,
-            stagger: u64,
-            bottom_up: bool,
-            floats: *mut f64,
-            floats_len: usize,
-            wholes: *mut u64,
-            wholes_len: usize,
-            points: *mut f64,
-            points_len: usize,
-            section_ends: *mut u64,
-            section_ends_len: usize,
-            sections: *mut u64,
-            count: *mut u64,
-        ) -> u64;
-        fn beahcerot_row_list(
-            corners: *const f64,
-            corners_len: usize,
-            ends: *const u64,
-            ends_len: usize,
-            rule: u64,
-            spacing: f64,
-            len: f64,
-            inset: f64,
-            pull: f64,
-            cosine: f64,
-            sine: f64,
-            stagger: u64,
-            bottom_up: bool,
-            floats: *mut f64,
-            floats_len: usize,
-            wholes: *mut u64,
-            wholes_len: usize,
-            ys: *mut f64,
-            ys_len: usize,
-            rows: *mut i64,
-            rows_len: usize,
-            section_numbers: *mut u64,
-            section_numbers_len: usize,
-            pieces: *mut u64,
-        ) -> u64;
-    }
 
     /// What a fill is lent to work in.
     pub struct Work<'a> {
@@ -415,7 +276,7 @@ pub mod fill {
             beahcerot_tatami(
                 c.as_ptr(),
                 c.len(),
-                e.as_ptr(),
+                e.as_ptr().cast(),
                 e.len(),
                 f.rule,
                 f.spacing,
@@ -428,11 +289,11 @@ pub mod fill {
                 f.bottom_up,
                 work.floats.as_mut_ptr(),
                 work.floats.len(),
-                work.wholes.as_mut_ptr(),
+                work.wholes.as_mut_ptr().cast(),
                 work.wholes.len(),
                 out.points.as_mut_ptr(),
                 out.points.len(),
-                out.section_ends.as_mut_ptr(),
+                out.section_ends.as_mut_ptr().cast(),
                 out.section_ends.len(),
                 out.sections,
                 out.count,
@@ -446,7 +307,7 @@ pub mod fill {
             beahcerot_row_list(
                 c.as_ptr(),
                 c.len(),
-                e.as_ptr(),
+                e.as_ptr().cast(),
                 e.len(),
                 f.rule,
                 f.spacing,
@@ -459,13 +320,13 @@ pub mod fill {
                 f.bottom_up,
                 work.floats.as_mut_ptr(),
                 work.floats.len(),
-                work.wholes.as_mut_ptr(),
+                work.wholes.as_mut_ptr().cast(),
                 work.wholes.len(),
                 out.ys.as_mut_ptr(),
                 out.ys.len(),
                 out.rows.as_mut_ptr(),
                 out.rows.len(),
-                out.section_numbers.as_mut_ptr(),
+                out.section_numbers.as_mut_ptr().cast(),
                 out.section_numbers.len(),
                 out.pieces,
             )
@@ -475,50 +336,9 @@ pub mod fill {
 
 /// Bounds, clipping and cross stitch.
 pub mod patterns {
+    use super::raw::{beahcerot_bounds, beahcerot_clip_inside, beahcerot_cross_stitch};
     use crate::inputs::outlines::Outline;
     use zigzag::geom::FillRule;
-
-    unsafe extern "C" {
-        fn beahcerot_bounds(
-            corners: *const f64,
-            corners_len: usize,
-            ends: *const u64,
-            ends_len: usize,
-            left: *mut f64,
-            top: *mut f64,
-            right: *mut f64,
-            bottom: *mut f64,
-        ) -> u64;
-        fn beahcerot_clip_inside(
-            line: *const f64,
-            line_len: usize,
-            corners: *const f64,
-            corners_len: usize,
-            ends: *const u64,
-            ends_len: usize,
-            rule: u64,
-            out: *mut f64,
-            out_len: usize,
-            stops: *mut u64,
-            stops_len: usize,
-            lines: *mut u64,
-            points: *mut u64,
-        ) -> u64;
-        fn beahcerot_cross_stitch(
-            corners: *const f64,
-            corners_len: usize,
-            ends: *const u64,
-            ends_len: usize,
-            rule: u64,
-            cell: f64,
-            out: *mut f64,
-            out_len: usize,
-            stops: *mut u64,
-            stops_len: usize,
-            lines: *mut u64,
-            points: *mut u64,
-        ) -> u64;
-    }
 
     /// The lent slices and counts of a call that writes lines.
     pub struct Lent<'a> {
@@ -535,7 +355,7 @@ pub mod patterns {
             beahcerot_bounds(
                 c.as_ptr(),
                 c.len(),
-                e.as_ptr(),
+                e.as_ptr().cast(),
                 e.len(),
                 left,
                 top,
@@ -549,16 +369,16 @@ pub mod patterns {
         let (c, e, rule) = (&o.corners, &o.ends, rule as u64);
         unsafe {
             beahcerot_clip_inside(
-                line.as_ptr(),
+                line.as_ptr().cast(),
                 line.len(),
                 c.as_ptr(),
                 c.len(),
-                e.as_ptr(),
+                e.as_ptr().cast(),
                 e.len(),
                 rule,
                 lent.out.as_mut_ptr(),
                 lent.out.len(),
-                lent.stops.as_mut_ptr(),
+                lent.stops.as_mut_ptr().cast(),
                 lent.stops.len(),
                 lent.lines,
                 lent.points,
@@ -572,13 +392,13 @@ pub mod patterns {
             beahcerot_cross_stitch(
                 c.as_ptr(),
                 c.len(),
-                e.as_ptr(),
+                e.as_ptr().cast(),
                 e.len(),
                 rule,
                 cell,
                 lent.out.as_mut_ptr(),
                 lent.out.len(),
-                lent.stops.as_mut_ptr(),
+                lent.stops.as_mut_ptr().cast(),
                 lent.stops.len(),
                 lent.lines,
                 lent.points,
@@ -589,65 +409,14 @@ pub mod patterns {
 
 /// Satin columns.
 pub mod satin {
+    use super::raw::{beahcerot_column, beahcerot_pairs, beahcerot_s_stitch, beahcerot_split_long};
     use crate::inputs::rails::{Column, Matched, Path, Rails};
-
-    unsafe extern "C" {
-        fn beahcerot_split_long(
-            line: *const f64,
-            line_len: usize,
-            max: f64,
-            out: *mut f64,
-            out_len: usize,
-            count: *mut u64,
-        ) -> u64;
-        fn beahcerot_s_stitch(
-            line: *const f64,
-            line_len: usize,
-            out: *mut f64,
-            out_len: usize,
-            count: *mut u64,
-        ) -> u64;
-        fn beahcerot_pairs(
-            a: *const f64,
-            a_len: usize,
-            b: *const f64,
-            b_len: usize,
-            sync: *const f64,
-            sync_len: usize,
-            step: f64,
-            work: *mut f64,
-            work_len: usize,
-            out: *mut f64,
-            out_len: usize,
-            count: *mut u64,
-        ) -> u64;
-        fn beahcerot_column(
-            a: *const f64,
-            a_len: usize,
-            b: *const f64,
-            b_len: usize,
-            sync: *const f64,
-            sync_len: usize,
-            spacing: f64,
-            pull: f64,
-            underlay: u64,
-            run_len: f64,
-            short_stitches: bool,
-            split: f64,
-            style: u64,
-            work: *mut f64,
-            work_len: usize,
-            out: *mut f64,
-            out_len: usize,
-            count: *mut u64,
-        ) -> u64;
-    }
 
     pub fn split_long(p: &Path, out: &mut [f64], count: &mut u64) -> u64 {
         let (line, room) = (&p.line, out.len());
         unsafe {
             beahcerot_split_long(
-                line.as_ptr(),
+                line.as_ptr().cast(),
                 line.len(),
                 p.max,
                 out.as_mut_ptr(),
@@ -659,7 +428,15 @@ pub mod satin {
 
     pub fn s_stitch(line: &[f64], out: &mut [f64], count: &mut u64) -> u64 {
         let room = out.len();
-        unsafe { beahcerot_s_stitch(line.as_ptr(), line.len(), out.as_mut_ptr(), room, count) }
+        unsafe {
+            beahcerot_s_stitch(
+                line.as_ptr().cast(),
+                line.len(),
+                out.as_mut_ptr(),
+                room,
+                count,
+            )
+        }
     }
 
     pub fn pairs(m: &Matched, work: &mut [f64], out: &mut [f64], count: &mut u64) -> u64 {

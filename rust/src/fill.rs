@@ -34,11 +34,18 @@ pub struct Piece {
 
 /// A first guess of the room that a fill needs: a few pieces for each corner.
 fn guess(corners: usize) -> Room {
-    Room { work: 16 * corners + 1024, out: 64 * corners + 1024 }
+    Room {
+        work: 16 * corners + 1024,
+        out: 64 * corners + 1024,
+    }
 }
 
 /// One stitched polyline per section, in original coordinates.
-pub fn tatami(rings: &[Polyline], rule: FillRule, p: &FillParams) -> Result<Vec<Polyline>, Refusal> {
+pub fn tatami(
+    rings: &[Polyline],
+    rule: FillRule,
+    p: &FillParams,
+) -> Result<Vec<Polyline>, Refusal> {
     let (corners, ends) = outline(rings);
     lend(guess(corners.len()), |room| {
         let (mut floats, mut wholes) = (vec![0.0; room.work], vec![0; room.work]);

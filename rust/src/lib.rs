@@ -59,7 +59,9 @@ fn outline(rings: &[Polyline]) -> (Vec<f64>, Vec<usize>) {
 }
 
 fn points(flat: &[f64]) -> Polyline {
-    flat.chunks_exact(2).map(|c| P { x: c[0], y: c[1] }).collect()
+    flat.chunks_exact(2)
+        .map(|c| P { x: c[0], y: c[1] })
+        .collect()
 }
 
 /// The lines of flat points that end at each of `ends`.

@@ -7,7 +7,10 @@ use crate::{P, Polyline, Refusal, flat, points};
 /// Running stitch along `line`, `passes` times back and forth (odd = ends at the far end).
 pub fn running(line: &[P], closed: bool, len: f64, passes: u32) -> Result<Polyline, Refusal> {
     let line = flat(line);
-    let room = Room { work: 0, out: 4 * line.len() };
+    let room = Room {
+        work: 0,
+        out: 4 * line.len(),
+    };
     lend(room, |room| {
         let mut out = vec![0.0; room.out];
         let mut count = 0;

@@ -20,14 +20,25 @@ pub fn bounds(rings: &[Polyline]) -> Result<(P, P), Refusal> {
             &mut high.y,
         )
     };
-    if answer == 0 { Ok((low, high)) } else { Err(Refusal::of(answer)) }
+    if answer == 0 {
+        Ok((low, high))
+    } else {
+        Err(Refusal::of(answer))
+    }
 }
 
 /// The runs of `pts` that lie inside.
-pub fn clip_inside(pts: &[P], rings: &[Polyline], rule: FillRule) -> Result<Vec<Polyline>, Refusal> {
+pub fn clip_inside(
+    pts: &[P],
+    rings: &[Polyline],
+    rule: FillRule,
+) -> Result<Vec<Polyline>, Refusal> {
     let line = flat(pts);
     let (corners, ends) = outline(rings);
-    let room = Room { work: 0, out: line.len() };
+    let room = Room {
+        work: 0,
+        out: line.len(),
+    };
     lend(room, |room| {
         let (mut out, mut stops) = (vec![0.0; room.out], vec![0; room.out]);
         let (mut runs, mut count) = (0, 0);
@@ -53,7 +64,11 @@ pub fn clip_inside(pts: &[P], rings: &[Polyline], rule: FillRule) -> Result<Vec<
 }
 
 /// Full cross stitch: an X in every cell whose centre is inside.
-pub fn cross_stitch(rings: &[Polyline], rule: FillRule, cell: f64) -> Result<Vec<Polyline>, Refusal> {
+pub fn cross_stitch(
+    rings: &[Polyline],
+    rule: FillRule,
+    cell: f64,
+) -> Result<Vec<Polyline>, Refusal> {
     let (corners, ends) = outline(rings);
     lend(Room { work: 0, out: 4096 }, |room| {
         let (mut out, mut stops) = (vec![0.0; room.out], vec![0; room.out / 8]);

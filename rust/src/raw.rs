@@ -20,7 +20,7 @@ unsafe extern "C" {
     pub fn beahcerot_smaller(a: f64, b: f64) -> f64;
     pub fn beahcerot_larger(a: f64, b: f64) -> f64;
     pub fn beahcerot_magnitude(x: f64) -> f64;
-    pub fn beahcerot_before(a: f64, b: f64) -> bool;
+    pub fn beahcerot_before(a: f64, b: f64) -> u8;
     pub fn beahcerot_to_i64(x: f64) -> i64;
     pub fn beahcerot_to_u64(x: f64) -> u64;
     pub fn beahcerot_of_i64(n: i64) -> f64;

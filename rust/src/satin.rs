@@ -60,13 +60,20 @@ struct Flat {
 impl Flat {
     fn of(r: &Rails) -> Flat {
         let sync = r.sync.iter().flat_map(|&(a, b)| [a, b]).collect();
-        Flat { a: flat(&r.a), b: flat(&r.b), sync }
+        Flat {
+            a: flat(&r.a),
+            b: flat(&r.b),
+            sync,
+        }
     }
 
     /// A first guess of the room that rails need: a few pairs for each corner.
     fn guess(&self) -> Room {
         let corners = self.a.len() + self.b.len();
-        Room { work: 64 * corners + 2 * self.sync.len() + 1024, out: 32 * corners + 1024 }
+        Room {
+            work: 64 * corners + 2 * self.sync.len() + 1024,
+            out: 32 * corners + 1024,
+        }
     }
 }
 
@@ -138,24 +145,50 @@ pub fn column(r: &Rails, p: &SatinParams) -> Result<Polyline, Refusal> {
 /// A path with its long stitches split, the splits of neighbours staggered.
 pub fn split_long(pts: &[P], max: f64) -> Result<Polyline, Refusal> {
     let line = flat(pts);
-    lend(Room { work: 0, out: 4 * line.len() }, |room| {
-        let mut out = vec![0.0; room.out];
-        let mut count = 0;
-        let answer = unsafe {
-            beahcerot_split_long(line.as_ptr(), line.len(), max, out.as_mut_ptr(), out.len(), &mut count)
-        };
-        (answer, points(&out[..2 * count as usize]))
-    })
+    lend(
+        Room {
+            work: 0,
+            out: 4 * line.len(),
+        },
+        |room| {
+            let mut out = vec![0.0; room.out];
+            let mut count = 0;
+            let answer = unsafe {
+                beahcerot_split_long(
+                    line.as_ptr(),
+                    line.len(),
+                    max,
+                    out.as_mut_ptr(),
+                    out.len(),
+                    &mut count,
+                )
+            };
+            (answer, points(&out[..2 * count as usize]))
+        },
+    )
 }
 
 /// A path with its stitches bent to an s.
 pub fn s_stitch(pts: &[P]) -> Result<Polyline, Refusal> {
     let line = flat(pts);
-    lend(Room { work: 0, out: 4 * line.len() }, |room| {
-        let mut out = vec![0.0; room.out];
-        let mut count = 0;
-        let answer =
-            unsafe { beahcerot_s_stitch(line.as_ptr(), line.len(), out.as_mut_ptr(), out.len(), &mut count) };
-        (answer, points(&out[..2 * count as usize]))
-    })
+    lend(
+        Room {
+            work: 0,
+            out: 4 * line.len(),
+        },
+        |room| {
+            let mut out = vec![0.0; room.out];
+            let mut count = 0;
+            let answer = unsafe {
+                beahcerot_s_stitch(
+                    line.as_ptr(),
+                    line.len(),
+                    out.as_mut_ptr(),
+                    out.len(),
+                    &mut count,
+                )
+            };
+            (answer, points(&out[..2 * count as usize]))
+        },
+    )
 }

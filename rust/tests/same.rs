@@ -8,7 +8,10 @@ struct Shapes(u64);
 
 impl Shapes {
     fn next(&mut self) -> u64 {
-        self.0 = self.0.wrapping_mul(6364136223846793005).wrapping_add(1442695040888963407);
+        self.0 = self
+            .0
+            .wrapping_mul(6364136223846793005)
+            .wrapping_add(1442695040888963407);
         self.0 >> 33
     }
 
@@ -23,12 +26,22 @@ impl Shapes {
     }
 
     fn line(&mut self, n: u64) -> Vec<ours::P> {
-        (0..n).map(|_| ours::P { x: self.number(-200, 200), y: self.number(-200, 200) }).collect()
+        (0..n)
+            .map(|_| ours::P {
+                x: self.number(-200, 200),
+                y: self.number(-200, 200),
+            })
+            .collect()
     }
 
     fn rings(&mut self) -> Vec<Vec<ours::P>> {
         let n = self.below(4);
-        (0..n).map(|_| { let k = self.below(9); self.line(k) }).collect()
+        (0..n)
+            .map(|_| {
+                let k = self.below(9);
+                self.line(k)
+            })
+            .collect()
     }
 
     fn rule(&mut self) -> (ours::FillRule, geom::FillRule) {
@@ -42,8 +55,14 @@ impl Shapes {
         let (m, n) = (self.below(8), self.below(8));
         let (a, b) = (self.line(m), self.line(n));
         let k = self.below(4);
-        let sync: Vec<(f64, f64)> = (0..k).map(|_| (self.number(0, 300), self.number(0, 300))).collect();
-        let theirs = satin::Rails { a: theirs(&a), b: theirs(&b), sync: sync.clone() };
+        let sync: Vec<(f64, f64)> = (0..k)
+            .map(|_| (self.number(0, 300), self.number(0, 300)))
+            .collect();
+        let theirs = satin::Rails {
+            a: theirs(&a),
+            b: theirs(&b),
+            sync: sync.clone(),
+        };
         (ours::Rails { a, b, sync }, theirs)
     }
 }
@@ -58,11 +77,15 @@ fn all_theirs(rings: &[Vec<ours::P>]) -> Vec<Vec<geom::P>> {
 
 /// The bits of every point.
 fn bits(line: &[ours::P]) -> Vec<(u64, u64)> {
-    line.iter().map(|p| (p.x.to_bits(), p.y.to_bits())).collect()
+    line.iter()
+        .map(|p| (p.x.to_bits(), p.y.to_bits()))
+        .collect()
 }
 
 fn their_bits(line: &[geom::P]) -> Vec<(u64, u64)> {
-    line.iter().map(|p| (p.x.to_bits(), p.y.to_bits())).collect()
+    line.iter()
+        .map(|p| (p.x.to_bits(), p.y.to_bits()))
+        .collect()
 }
 
 fn same(ours: &[Vec<ours::P>], theirs: &[Vec<geom::P>]) {
@@ -99,11 +122,17 @@ fn tatami_is_zigzags() {
             bottom_up: p.bottom_up,
         };
         let sewn = ours::tatami(&rings, rule, &p).unwrap();
-        same(&sewn, &fill::tatami_by_place(&all_theirs(&rings), their_rule, &their_p));
+        same(
+            &sewn,
+            &fill::tatami_by_place(&all_theirs(&rings), their_rule, &their_p),
+        );
         let pieces = ours::row_list(&rings, rule, &p).unwrap();
         let their_pieces = fill::row_list_by_place(&all_theirs(&rings), their_rule, &their_p);
         assert_eq!(pieces.len(), their_pieces.len());
-        assert_eq!(pieces.iter().map(|p| p.section + 1).max().unwrap_or(0), sewn.len());
+        assert_eq!(
+            pieces.iter().map(|p| p.section + 1).max().unwrap_or(0),
+            sewn.len()
+        );
     }
 }
 
@@ -136,15 +165,24 @@ fn column_and_its_parts_are_zigzags() {
             split: p.split,
             style: their_style,
         };
-        assert_eq!(bits(&ours::column(&rails, &p).unwrap()), their_bits(&satin::column(&their_rails, &their_p)));
+        assert_eq!(
+            bits(&ours::column(&rails, &p).unwrap()),
+            their_bits(&satin::column(&their_rails, &their_p))
+        );
         let pairs = ours::pairs(&rails, p.spacing).unwrap();
         let their_pairs = satin::pairs(&their_rails, p.spacing);
         let flat: Vec<ours::P> = pairs.iter().flat_map(|&(a, b)| [a, b]).collect();
         let their_flat: Vec<geom::P> = their_pairs.iter().flat_map(|&(a, b)| [a, b]).collect();
         assert_eq!(bits(&flat), their_bits(&their_flat));
         let line = &rails.a;
-        assert_eq!(bits(&ours::split_long(line, p.run_len).unwrap()), their_bits(&satin::split_long(&theirs(line), p.run_len)));
-        assert_eq!(bits(&ours::s_stitch(line).unwrap()), their_bits(&satin::s_stitch(&theirs(line))));
+        assert_eq!(
+            bits(&ours::split_long(line, p.run_len).unwrap()),
+            their_bits(&satin::split_long(&theirs(line), p.run_len))
+        );
+        assert_eq!(
+            bits(&ours::s_stitch(line).unwrap()),
+            their_bits(&satin::s_stitch(&theirs(line)))
+        );
     }
 }
 
@@ -154,7 +192,10 @@ fn patterns_and_running_are_zigzags() {
     for _ in 0..ROUNDS {
         let (rings, (rule, their_rule)) = (s.rings(), s.rule());
         let cell = s.number(5, 60);
-        same(&ours::cross_stitch(&rings, rule, cell).unwrap(), &patterns::cross_stitch(&all_theirs(&rings), their_rule, cell));
+        same(
+            &ours::cross_stitch(&rings, rule, cell).unwrap(),
+            &patterns::cross_stitch(&all_theirs(&rings), their_rule, cell),
+        );
         let n = s.below(30);
         let line = s.line(n);
         same(
@@ -172,18 +213,33 @@ fn patterns_and_running_are_zigzags() {
 #[test]
 fn refusals_have_names() {
     let p = |x| ours::P { x, y: 0.0 };
-    let rails = ours::Rails { a: vec![p(0.0), p(f64::NAN)], b: vec![p(0.0), p(1.0)], sync: vec![] };
+    let rails = ours::Rails {
+        a: vec![p(0.0), p(f64::NAN)],
+        b: vec![p(0.0), p(1.0)],
+        sync: vec![],
+    };
     assert_eq!(ours::pairs(&rails, 5.0), Err(ours::Refusal::Number));
-    assert_eq!(ours::running(&[p(0.0), p(1.0)], false, 0.5, 1), Err(ours::Refusal::Setting));
-    assert_eq!(ours::cross_stitch(&vec![vec![]; 256], ours::FillRule::NonZero, 10.0), Err(ours::Refusal::Layout));
+    assert_eq!(
+        ours::running(&[p(0.0), p(1.0)], false, 0.5, 1),
+        Err(ours::Refusal::Setting)
+    );
+    assert_eq!(
+        ours::cross_stitch(&vec![vec![]; 256], ours::FillRule::NonZero, 10.0),
+        Err(ours::Refusal::Layout)
+    );
     let wide = vec![vec![p(-90000.0), p(90000.0), ours::P { x: 0.0, y: 9.0 }]];
-    assert_eq!(ours::cross_stitch(&wide, ours::FillRule::NonZero, 1.0), Err(ours::Refusal::Size));
+    assert_eq!(
+        ours::cross_stitch(&wide, ours::FillRule::NonZero, 1.0),
+        Err(ours::Refusal::Size)
+    );
 }
 
 #[test]
 fn what_needs_much_room_gets_it() {
     let square = vec![
-        [(0.0, 0.0), (4000.0, 0.0), (4000.0, 4000.0), (0.0, 4000.0)].map(|(x, y)| ours::P { x, y }).to_vec(),
+        [(0.0, 0.0), (4000.0, 0.0), (4000.0, 4000.0), (0.0, 4000.0)]
+            .map(|(x, y)| ours::P { x, y })
+            .to_vec(),
     ];
     let p = ours::FillParams {
         angle: 0.0,
