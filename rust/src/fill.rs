@@ -49,7 +49,8 @@ pub fn tatami(
     let (corners, ends) = outline(rings);
     lend(guess(corners.len()), |room| {
         let (mut floats, mut wholes) = (vec![0.0; room.work], vec![0; room.work]);
-        let (mut out, mut stops) = (vec![0.0; room.out], vec![0; room.out]);
+        // A section has two points or more, four floats.
+        let (mut out, mut stops) = (vec![0.0; room.out], vec![0; room.out / 4]);
         let (mut sections, mut count) = (0, 0);
         let answer = unsafe {
             beahcerot_tatami(

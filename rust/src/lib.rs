@@ -1,7 +1,7 @@
 //! zigzag's stitch calls with zigzag's names and shapes, answered by the proved
 //! library. Each lends the library its room, so no caller has to guess it, and
 //! answers what is sewn or the refusal's name. Whatever the outline, a call
-//! ends: it never panics and never loops.
+//! ends; an answer that memory cannot hold ends the program, as with any `Vec`.
 
 mod fill;
 mod line;

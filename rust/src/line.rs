@@ -1,8 +1,8 @@
 //! Running stitch.
 
 use crate::raw::beahcerot_running;
-use crate::room::{Room, lend};
-use crate::{P, Polyline, Refusal, flat, points};
+use crate::room::{Room, sewn};
+use crate::{P, Polyline, Refusal, flat};
 
 /// Running stitch along `line`, `passes` times back and forth (odd = ends at the far end).
 pub fn running(line: &[P], closed: bool, len: f64, passes: u32) -> Result<Polyline, Refusal> {
@@ -11,21 +11,16 @@ pub fn running(line: &[P], closed: bool, len: f64, passes: u32) -> Result<Polyli
         work: 0,
         out: 4 * line.len(),
     };
-    lend(room, |room| {
-        let mut out = vec![0.0; room.out];
-        let mut count = 0;
-        let answer = unsafe {
-            beahcerot_running(
-                line.as_ptr(),
-                line.len(),
-                closed,
-                len,
-                passes.into(),
-                out.as_mut_ptr(),
-                out.len(),
-                &mut count,
-            )
-        };
-        (answer, points(&out[..2 * count as usize]))
+    sewn(room, |_, out, count| unsafe {
+        beahcerot_running(
+            line.as_ptr(),
+            line.len(),
+            closed,
+            len,
+            passes.into(),
+            out.as_mut_ptr(),
+            out.len(),
+            count,
+        )
     })
 }

@@ -2,7 +2,7 @@
 //! what it was lent is too short, and touches no output then, so that asking
 //! again with more is all there is to do.
 
-use crate::Refusal;
+use crate::{Polyline, Refusal, points};
 
 const DONE: u64 = 0;
 const WORK: u64 = 6;
@@ -25,4 +25,17 @@ pub fn lend<T>(mut room: Room, mut call: impl FnMut(Room) -> (u64, T)) -> Result
             (number, _) => return Err(Refusal::of(number)),
         }
     }
+}
+
+/// The points of a call that sews one line: it is lent a working slice and an output, and stores how many points it wrote.
+pub fn sewn(
+    room: Room,
+    mut call: impl FnMut(&mut [f64], &mut [f64], &mut u64) -> u64,
+) -> Result<Polyline, Refusal> {
+    lend(room, |room| {
+        let (mut work, mut out) = (vec![0.0; room.work], vec![0.0; room.out]);
+        let mut count = 0;
+        let answer = call(&mut work, &mut out, &mut count);
+        (answer, points(&out[..2 * count as usize]))
+    })
 }

@@ -1,8 +1,8 @@
 //! Satin columns between two rails.
 
 use crate::raw::{beahcerot_column, beahcerot_pairs, beahcerot_s_stitch, beahcerot_split_long};
-use crate::room::{Room, lend};
-use crate::{P, Polyline, Refusal, flat, points};
+use crate::room::{Room, sewn};
+use crate::{P, Polyline, Refusal, flat};
 
 /// Two rails, and the places where they are kept in step. zigzag's `closed` is read by none of these calls.
 #[derive(Clone, Debug)]
@@ -80,28 +80,23 @@ impl Flat {
 /// Matched points on both rails, about `step` apart.
 pub fn pairs(r: &Rails, step: f64) -> Result<Vec<(P, P)>, Refusal> {
     let f = Flat::of(r);
-    lend(f.guess(), |room| {
-        let (mut work, mut out) = (vec![0.0; room.work], vec![0.0; room.out]);
-        let mut count = 0;
-        let answer = unsafe {
-            beahcerot_pairs(
-                f.a.as_ptr(),
-                f.a.len(),
-                f.b.as_ptr(),
-                f.b.len(),
-                f.sync.as_ptr(),
-                f.sync.len(),
-                step,
-                work.as_mut_ptr(),
-                work.len(),
-                out.as_mut_ptr(),
-                out.len(),
-                &mut count,
-            )
-        };
-        let both = points(&out[..2 * count as usize]);
-        (answer, both.chunks_exact(2).map(|c| (c[0], c[1])).collect())
-    })
+    let both = sewn(f.guess(), |work, out, count| unsafe {
+        beahcerot_pairs(
+            f.a.as_ptr(),
+            f.a.len(),
+            f.b.as_ptr(),
+            f.b.len(),
+            f.sync.as_ptr(),
+            f.sync.len(),
+            step,
+            work.as_mut_ptr(),
+            work.len(),
+            out.as_mut_ptr(),
+            out.len(),
+            count,
+        )
+    })?;
+    Ok(both.chunks_exact(2).map(|c| (c[0], c[1])).collect())
 }
 
 /// A satin column: underlay, then the top.
@@ -113,82 +108,63 @@ pub fn column(r: &Rails, p: &SatinParams) -> Result<Polyline, Refusal> {
         Some(max) => max,
     };
     let f = Flat::of(r);
-    lend(f.guess(), |room| {
-        let (mut work, mut out) = (vec![0.0; room.work], vec![0.0; room.out]);
-        let mut count = 0;
-        let answer = unsafe {
-            beahcerot_column(
-                f.a.as_ptr(),
-                f.a.len(),
-                f.b.as_ptr(),
-                f.b.len(),
-                f.sync.as_ptr(),
-                f.sync.len(),
-                p.spacing,
-                p.pull,
-                p.underlay.into(),
-                p.run_len,
-                p.short_stitches,
-                split,
-                p.style.number(),
-                work.as_mut_ptr(),
-                work.len(),
-                out.as_mut_ptr(),
-                out.len(),
-                &mut count,
-            )
-        };
-        (answer, points(&out[..2 * count as usize]))
+    sewn(f.guess(), |work, out, count| unsafe {
+        beahcerot_column(
+            f.a.as_ptr(),
+            f.a.len(),
+            f.b.as_ptr(),
+            f.b.len(),
+            f.sync.as_ptr(),
+            f.sync.len(),
+            p.spacing,
+            p.pull,
+            p.underlay.into(),
+            p.run_len,
+            p.short_stitches,
+            split,
+            p.style.number(),
+            work.as_mut_ptr(),
+            work.len(),
+            out.as_mut_ptr(),
+            out.len(),
+            count,
+        )
     })
 }
 
 /// A path with its long stitches split, the splits of neighbours staggered.
 pub fn split_long(pts: &[P], max: f64) -> Result<Polyline, Refusal> {
     let line = flat(pts);
-    lend(
-        Room {
-            work: 0,
-            out: 4 * line.len(),
-        },
-        |room| {
-            let mut out = vec![0.0; room.out];
-            let mut count = 0;
-            let answer = unsafe {
-                beahcerot_split_long(
-                    line.as_ptr(),
-                    line.len(),
-                    max,
-                    out.as_mut_ptr(),
-                    out.len(),
-                    &mut count,
-                )
-            };
-            (answer, points(&out[..2 * count as usize]))
-        },
-    )
+    let room = Room {
+        work: 0,
+        out: 4 * line.len(),
+    };
+    sewn(room, |_, out, count| unsafe {
+        beahcerot_split_long(
+            line.as_ptr(),
+            line.len(),
+            max,
+            out.as_mut_ptr(),
+            out.len(),
+            count,
+        )
+    })
 }
 
 /// A path with its stitches bent to an s.
 pub fn s_stitch(pts: &[P]) -> Result<Polyline, Refusal> {
     let line = flat(pts);
-    lend(
-        Room {
-            work: 0,
-            out: 4 * line.len(),
-        },
-        |room| {
-            let mut out = vec![0.0; room.out];
-            let mut count = 0;
-            let answer = unsafe {
-                beahcerot_s_stitch(
-                    line.as_ptr(),
-                    line.len(),
-                    out.as_mut_ptr(),
-                    out.len(),
-                    &mut count,
-                )
-            };
-            (answer, points(&out[..2 * count as usize]))
-        },
-    )
+    let room = Room {
+        work: 0,
+        out: 4 * line.len(),
+    };
+    sewn(room, |_, out, count| unsafe {
+        beahcerot_s_stitch(
+            line.as_ptr(),
+            line.len(),
+            out.as_mut_ptr(),
+            out.len(),
+            count,
+        )
+    })
 }

@@ -99,6 +99,7 @@ const ROUNDS: usize = 2000;
 #[test]
 fn tatami_is_zigzags() {
     let mut s = Shapes(1);
+    let mut points = 0;
     for _ in 0..ROUNDS {
         let rings = s.rings();
         let (rule, their_rule) = s.rule();
@@ -126,19 +127,28 @@ fn tatami_is_zigzags() {
             &sewn,
             &fill::tatami_by_place(&all_theirs(&rings), their_rule, &their_p),
         );
+        points += sewn.iter().map(|l| l.len()).sum::<usize>();
         let pieces = ours::row_list(&rings, rule, &p).unwrap();
         let their_pieces = fill::row_list_by_place(&all_theirs(&rings), their_rule, &their_p);
-        assert_eq!(pieces.len(), their_pieces.len());
-        assert_eq!(
-            pieces.iter().map(|p| p.section + 1).max().unwrap_or(0),
-            sewn.len()
-        );
+        let words =
+            |k, y: f64, xa: f64, xb: f64, s| (k, y.to_bits(), xa.to_bits(), xb.to_bits(), s);
+        let listed: Vec<_> = pieces
+            .iter()
+            .map(|p| words(p.row, p.y, p.xa, p.xb, p.section))
+            .collect();
+        let their_list: Vec<_> = their_pieces
+            .iter()
+            .map(|p| words(p.k, p.y, p.xa, p.xb, p.section))
+            .collect();
+        assert_eq!(listed, their_list);
     }
+    assert!(points > 100_000, "only {points} points were compared");
 }
 
 #[test]
 fn column_and_its_parts_are_zigzags() {
     let mut s = Shapes(2);
+    let mut points = 0;
     for _ in 0..ROUNDS {
         let (rails, their_rails) = s.rails();
         let styles = [
@@ -183,7 +193,12 @@ fn column_and_its_parts_are_zigzags() {
             bits(&ours::s_stitch(line).unwrap()),
             their_bits(&satin::s_stitch(&theirs(line)))
         );
+        points += flat.len();
     }
+    assert!(
+        points > 10_000,
+        "only {points} points of pairs were compared"
+    );
 }
 
 #[test]
