@@ -10,6 +10,7 @@ use std::collections::BTreeSet;
 
 const UNLIKE_ZEROS: &str = "zeros of unlike sign";
 const NAN_PLACE: &str = "NaN has no place in the order";
+const SIGNALLING: &str = "a signalling NaN";
 
 pub fn functions() -> Vec<Function> {
     vec![
@@ -38,6 +39,11 @@ pub fn functions() -> Vec<Function> {
 
 fn unlike_zeros(a: f64, b: f64) -> bool {
     a == 0.0 && b == 0.0 && a.to_bits() != b.to_bits()
+}
+
+fn signalling(x: f64) -> bool {
+    const QUIET: u64 = 1 << 51;
+    x.is_nan() && x.to_bits() & QUIET == 0
 }
 
 fn plain_pair(rng: &mut Rng) -> (f64, f64) {
@@ -74,19 +80,26 @@ fn one(
     .timed(numbers::plain, move |&x| rust(x), move |&x| ours(x))
 }
 
-/// Of two zeros of unlike sign, document 01 gives `zero`.
+/// Of two zeros of unlike sign, document 01 gives `zero`. What the Rust gives for a
+/// signalling NaN depends on the processor; ours gives the number, as for any NaN.
 fn two(
     name: &'static str,
     rust: impl Fn(f64, f64) -> f64 + Copy + 'static,
     ours: impl Fn(f64, f64) -> f64 + Copy + 'static,
     zero: f64,
 ) -> Function {
+    let tie = move |&(a, b): &(f64, f64)| {
+        let number = if a.is_nan() { b } else { a };
+        (signalling(a) || signalling(b))
+            .then_some((SIGNALLING, number))
+            .or(unlike_zeros(a, b).then_some((UNLIKE_ZEROS, zero)))
+    };
     Function::new(
         name,
         numbers::two,
         move |&(a, b)| rust(a, b),
         move |&(a, b)| ours(a, b),
-        move |&(a, b)| unlike_zeros(a, b).then_some((UNLIKE_ZEROS, zero)),
+        tie,
     )
     .timed(
         plain_pair,
