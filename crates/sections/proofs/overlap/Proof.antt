@@ -1,3 +1,6 @@
+use mathlib.Core.Path.{_≡_}
+use mathlib.Core.Bool.{false}
+use lib.Ieee.{lt}
 use Rattle.rules.specs.Fill.{overlap}
 use borrow.Author.Needs.{needs}
 use Rattle.sections.proofs.overlap.Statement.{statement}
@@ -9,7 +12,10 @@ returns c = rw (c .before .before .if1 .taken)
 
 returns-2 : tie.Need-returns-2
 unfolding overlap
-returns-2 c = rw (c .if1 .left)
+returns-2 c =
+    let s = c .before .args in
+    let apart : lt (s .last .xa) (s .next .xb) ≡ false = c .if1 .left in
+    rw apart
 
 pub overlap-spec : {M : Type 1} → statement M
 overlap-spec =

@@ -1,4 +1,7 @@
-use lib.Ieee.{ofBits, round}
+use mathlib.Core.Path.{_≡_}
+use mathlib.Core.Bool.{true}
+use lib.Ieee.{ofBits, round, lt}
+use Prim.Native.Nat.{_^_}
 use Rattle.numbers.specs.Num.{literal}
 use Rattle.rules.specs.Fill.{keptSide}
 use borrow.Author.Needs.{needs}
@@ -7,7 +10,9 @@ use Rattle.edges.proofs.side.kept_side.Tie as tie
 
 returns : tie.Need-returns
 unfolding keptSide literal round ofBits
-returns c = let t = rw (c .before .magnitude .ensures) at (c .if1 .taken) in rw t
+returns c =
+    let flat : lt (c .before .magnitude .result) (literal 1 (10 ^ 9)) ≡ true = c .if1 .taken in
+    rw (← c .before .magnitude .ensures, flat)
 
 returns-2 : tie.Need-returns-2
 unfolding keptSide literal round ofBits

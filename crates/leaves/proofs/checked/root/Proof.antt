@@ -1,5 +1,8 @@
 use borrow.Author.Needs.{needs}
-use lib.Ieee.{ofBits}
+use mathlib.Core.Path.{_≡_}
+use mathlib.Core.Bool.{true, false}
+use lib.Ieee.{ofBits, le}
+use Rattle.numbers.specs.Num.{zero64}
 use Rattle.leaves.specs.Answer.{rootAnswer}
 use Rattle.leaves.proofs.OrderTests.{tested}
 use Rattle.leaves.proofs.checked.root.Statement.{statement}
@@ -9,13 +12,15 @@ returns : tie.Need-returns
 unfolding rootAnswer ofBits
 returns c =
     let first = c .before .before .before in
-    rw (c .root .ensures, tested (first .is-finite .ensures) (c .before .before .if1 .taken), c .before .if2 .taken)
+    let some : le zero64 (first .before .args .x) ≡ true = c .before .if2 .taken in
+    rw (c .root .ensures, tested (first .is-finite .ensures) (c .before .before .if1 .taken), some)
 
 returns-2 : tie.Need-returns-2
 unfolding rootAnswer ofBits
 returns-2 c =
     let first = c .before .before in
-    rw (tested (first .is-finite .ensures) (c .before .if1 .taken), c .if2 .left)
+    let none : le zero64 (first .before .args .x) ≡ false = c .if2 .left in
+    rw (tested (first .is-finite .ensures) (c .before .if1 .taken), none)
 
 returns-3 : tie.Need-returns-3
 unfolding rootAnswer

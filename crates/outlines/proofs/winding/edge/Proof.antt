@@ -24,7 +24,10 @@ returns-2 c =
 
 returns-3 : tie.Need-returns-3
 unfolding edge
-returns-3 c = rw (c .before .before .before .if1 .taken, c .if2 .left)
+returns-3 c =
+    let s = c .before .before .before .before .before .before .args in
+    let below : lt (s .p .y) (s .b .y) ≡ false = c .if2 .left in
+    rw (c .before .before .before .if1 .taken, below)
 
 returns-4 : tie.Need-returns-4
 unfolding edge ofBits
