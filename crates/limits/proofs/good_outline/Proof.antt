@@ -10,7 +10,7 @@ returns c = rw (ne-eqb _ _ (c .if1 .taken))
 
 returns-2 : tie.Need-returns-2
 unfolding goodOutline
-returns-2 c = rw (eq-eqb _ _ (c .before .if1 .left), lt-leb 255 _ (c .if2 .taken))
+returns-2 c = rw (eq-eqb _ _ (c .before .if1 .left), lt-leb _ 255 (c .if2 .taken))
 
 returns-3 : tie.Need-returns-3
 unfolding goodOutline

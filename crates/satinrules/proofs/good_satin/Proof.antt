@@ -1,7 +1,9 @@
 -- `good_satin` meets its contract: each answer follows from the tests on the way to it. Assumes nothing.
-use mathlib.Core.Path.{refl, sym, _∙_}
+use mathlib.Core.Path.{_≡_, refl, sym, _∙_}
+use mathlib.Core.Bool.{false}
 use borrow.Author.Tests.{not-true, not-false}
 use Rattle.satinrules.specs.Settings.{goodSatin}
+use Rattle.limits.specs.Limits.{goodInset}
 use borrow.Author.Needs.{needs}
 use Rattle.satinrules.proofs.good_satin.Statement.{statement}
 use Rattle.satinrules.proofs.good_satin.Tie as tie
@@ -12,7 +14,10 @@ returns c = rw (sym (c .before .good-spacing .ensures) ∙ not-true _ (c .if1 .t
 
 returns-2 : tie.Need-returns-2
 unfolding goodSatin
-returns-2 c = rw (sym (c .before .before .before .good-spacing .ensures) ∙ not-false _ (c .before .before .if1 .left), sym (c .before .good-inset .ensures) ∙ not-true _ (c .if2 .taken))
+returns-2 c =
+    let s = c .before .before .before .before .args in
+    let bad : goodInset (s .g .pull) ≡ false = sym (c .before .good-inset .ensures) ∙ not-true _ (c .if2 .taken) in
+    rw (sym (c .before .before .before .good-spacing .ensures) ∙ not-false _ (c .before .before .if1 .left), bad)
 
 returns-3 : tie.Need-returns-3
 unfolding goodSatin

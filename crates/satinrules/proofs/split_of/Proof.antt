@@ -1,4 +1,6 @@
-use lib.Ieee.{ofBits}
+use mathlib.Core.Path.{_≡_}
+use mathlib.Core.Bool.{true}
+use lib.Ieee.{ofBits, eq}
 use Rattle.satinrules.specs.Settings.{splitOf}
 use borrow.Author.Needs.{needs}
 use Rattle.satinrules.proofs.split_of.Statement.{statement}
@@ -6,7 +8,7 @@ use Rattle.satinrules.proofs.split_of.Tie as tie
 
 returns : tie.Need-returns
 unfolding splitOf ofBits
-returns c = rw (c .if1 .taken)
+returns c = let zero : eq (c .before .args .x) _ ≡ true = c .if1 .taken in rw zero
 
 returns-2 : tie.Need-returns-2
 unfolding splitOf ofBits

@@ -15,7 +15,7 @@ use Rattle.column.proofs.sized.column_sized.Tie as tie
 returns : tie.Need-returns
 returns c =
     let a = c .before .before .before .before .args in
-    let e = rw (c .before .before .runs .ensures) at (c .before .sized-if .ensures) in
+    let e : c .before .sized-if .result ≡ sizedAt (a .ends) (points (a .sync .now)) (onlyIf (runs (a .g)) (a .g .«run_len» ∷ [])) = rw (c .before .before .runs .ensures) at (c .before .sized-if .ensures) in
     sym (sized-three (a .ends) (points (a .sync .now)) (a .g) ∙ rw (sym e ∙ not-true _ (c .if1 .taken)))
 
 returns-2 : tie.Need-returns-2

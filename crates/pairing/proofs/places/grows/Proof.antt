@@ -1,3 +1,6 @@
+use mathlib.Core.Path.{_≡_}
+use mathlib.Core.Bool.{false}
+use lib.Ieee.{lt}
 use Rattle.satinrules.specs.Pairs.{grows}
 use borrow.Author.Needs.{needs}
 use Rattle.pairing.proofs.places.grows.Statement.{statement}
@@ -9,7 +12,10 @@ returns c = rw (c .before .before .before .before .before .before .before .befor
 
 returns-2 : tie.Need-returns-2
 unfolding grows
-returns-2 c = rw (c .before .before .before .before .before .before .if1 .taken, c .before .before .before .if2 .taken, c .if3 .left)
+returns-2 c =
+    let s = c .before .before .before .before .before .before .before .before .before .args in
+    let past : lt (s .q .x) (s .ends .x) ≡ false = c .if3 .left in
+    rw (c .before .before .before .before .before .before .if1 .taken, c .before .before .before .if2 .taken, past)
 
 returns-3 : tie.Need-returns-3
 unfolding grows

@@ -9,7 +9,7 @@ use Rattle.satin.proofs.rails.few_corners.Tie as tie
 
 returns : tie.Need-returns
 unfolding few railsOf
-returns c = rw (points-length (c .before .args .a .now), lt-ltb _ _ (c .if1 .taken))
+returns c = rw (points-length (c .before .args .a .now), lt-ltb _ 2 (c .if1 .taken))
 
 returns-2 : tie.Need-returns-2
 unfolding few railsOf
