@@ -19,7 +19,6 @@ use Rattle.seqs.specs.Sort.{sort-perm, perm-length}
 use Rattle.seqs.specs.Upto.{upto-length}
 use Rattle.geom.specs.declared.point.P.{P}
 use Rattle.outlines.specs.declared.rule.FillRule.{FillRule}
-use Rattle.outlines.specs.declared.rule.FillRule.the-variants.{NonZero, EvenOdd}
 use Rattle.geom.specs.Point.{rotate}
 use Rattle.geom.specs.Outline.{points, cut, rings, rising}
 use Rattle.geom.specs.OutlineLaws.{points-length, rising-le}
@@ -28,6 +27,7 @@ use Rattle.limits.specs.Limits.{goodOutline}
 use Rattle.rules.specs.declared.Settings.{Settings}
 use Rattle.rules.specs.declared.Edge.{Edge}
 use Rattle.rules.specs.FillSections.{pieces-of-rows}
+use Rattle.rules.specs.RowsRise.{outside}
 use Rattle.rules.specs.Fill.{sidesTo, sides, edgeOf, keptSide, turned, edges, rowNumbers, rowAt, starts, lives, byX, crossed, crossing, spans, pieceOf, wide, piecesAt, piecesOf, met, rowList}
 
 -- ---- edges
@@ -118,9 +118,8 @@ spans-half rule w start (c ∷ cs) =
     go false false l h = omega (arith, h)
 
 outside-first : (rule : FillRule) → entered (inside rule (pos 0)) ≡ 0
-unfolding entered inside
-outside-first NonZero = refl
-outside-first EvenOdd = refl
+unfolding entered
+outside-first rule = ap entered (outside rule)
 
 -- in a row at most half as many pieces as edges
 pub row-half : (rule : FillRule) (g : Settings) (es : List Edge) (k : ℤ) → length (piecesOf rule g es k) ≤ length es / 2

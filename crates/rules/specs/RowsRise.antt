@@ -37,7 +37,8 @@ Small ab = Within 22 (ab .0) × Within 22 (ab .1)
 abbrev Right : Float × ℤ → Float × ℤ → Type 0
 Right c d = T (le (c .0) (d .0))
 
-outside : (rule : FillRule) → inside rule (pos 0) ≡ false
+-- what no crossing has entered is outside
+pub outside : (rule : FillRule) → inside rule (pos 0) ≡ false
 unfolding inside
 outside NonZero = refl
 outside EvenOdd = refl
