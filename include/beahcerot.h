@@ -38,6 +38,8 @@ uint64_t beahcerot_row_list(const double *corners, size_t corners_len, const siz
 
 uint64_t beahcerot_fill_room(const double *corners, size_t corners_len, const size_t *ends, size_t ends_len, double spacing, double len, double inset, double pull, double cosine, double sine, uint64_t stagger, uint64_t *floats, uint64_t *wholes);
 
+uint64_t beahcerot_fill_job(const uint8_t *bytes, size_t bytes_len, double *corners, size_t corners_len, size_t *ends, size_t ends_len, double *floats, size_t floats_len, size_t *wholes, size_t wholes_len, double *points, size_t points_len, size_t *stops, size_t stops_len, uint64_t *sections, uint64_t *count);
+
 uint64_t beahcerot_polyline_length(const double *line, size_t line_len, double *value);
 
 uint64_t beahcerot_resample_keep_corners(const double *line, size_t line_len, double len, double *out, size_t out_len, uint64_t *count);

@@ -1,19 +1,25 @@
-//! A fuzzer's target: the program `fill` on the bytes of standard input, beside what
-//! they owe. It panics where the two differ, or where the program doesn't end as it
-//! should. Nearly every change a fuzzer makes leaves a job's first length wrong, so
-//! the same bytes are tried with the length made right too.
-//! `fuzz seeds DIR` writes jobs to begin with. `oracle/fuzz` builds and runs all of it.
+//! A fuzzer's target: a job's bytes on standard input, filled by the archive and, with
+//! the word `program`, by the program `fill` too, beside what they owe. It panics where
+//! two differ, or where the program doesn't end as it should. Nearly every change a
+//! fuzzer makes leaves a job's first length wrong, so the same bytes are tried with the
+//! length made right too. `fuzz seeds DIR` writes jobs to begin with. `oracle/fuzz`
+//! builds and runs all of it.
 
 // The driver's modules are read here as this program's own; it doesn't use all of them.
 #![allow(dead_code)]
 mod expect;
+mod filled;
 mod inputs;
+mod job;
+mod ours;
 mod owed;
 mod program;
 mod rng;
 
+use filled::filled;
 use inputs::{boundaries::boundaries, fills};
-use program::{check, job, program, relength};
+use job::{job, relength};
+use program::{check, compare, program};
 use rng::Rng;
 use std::io::Read;
 use std::path::Path;
@@ -34,6 +40,13 @@ fn seeds(folder: &Path) -> std::io::Result<()> {
     Ok(())
 }
 
+fn look(bytes: &[u8], with_program: bool) {
+    compare(bytes, &filled(bytes));
+    if with_program {
+        check(&program().expect("the program fill"), bytes);
+    }
+}
+
 fn main() {
     let words: Vec<String> = std::env::args().skip(1).collect();
     if let [word, folder] = &words[..]
@@ -41,16 +54,16 @@ fn main() {
     {
         return seeds(Path::new(folder)).expect("a folder to write to");
     }
-    let program = program().expect("the program fill");
+    let with_program = words.iter().any(|w| w == "program");
     let mut bytes = Vec::new();
     std::io::stdin()
         .read_to_end(&mut bytes)
         .expect("bytes to read");
-    check(&program, &bytes);
+    look(&bytes, with_program);
     if bytes.len() >= 4 {
         let right = relength(bytes.clone());
         if right != bytes {
-            check(&program, &right);
+            look(&right, with_program);
         }
     }
 }

@@ -2,7 +2,9 @@
 
 mod compare;
 mod expect;
+mod filled;
 mod inputs;
+mod job;
 mod ours;
 mod owed;
 mod rng;

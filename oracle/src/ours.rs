@@ -243,7 +243,7 @@ pub mod stroke {
 
 /// The fill.
 pub mod fill {
-    use super::raw::{beahcerot_row_list, beahcerot_tatami};
+    use super::raw::{beahcerot_fill_job, beahcerot_row_list, beahcerot_tatami};
     use crate::inputs::fills::Fill;
 
     /// What a fill is lent to work in.
@@ -287,6 +287,31 @@ pub mod fill {
                 f.sine,
                 f.stagger,
                 f.bottom_up,
+                work.floats.as_mut_ptr(),
+                work.floats.len(),
+                work.wholes.as_mut_ptr().cast(),
+                work.wholes.len(),
+                out.points.as_mut_ptr(),
+                out.points.len(),
+                out.section_ends.as_mut_ptr().cast(),
+                out.section_ends.len(),
+                out.sections,
+                out.count,
+            )
+        }
+    }
+
+    /// A job by its bytes, with room for every job's outline.
+    pub fn fill_job(bytes: &[u8], work: Work, out: Sewn) -> u64 {
+        let (mut corners, mut ends) = ([0.0; 2048], [0usize; 255]);
+        unsafe {
+            beahcerot_fill_job(
+                bytes.as_ptr(),
+                bytes.len(),
+                corners.as_mut_ptr(),
+                corners.len(),
+                ends.as_mut_ptr(),
+                ends.len(),
                 work.floats.as_mut_ptr(),
                 work.floats.len(),
                 work.wholes.as_mut_ptr().cast(),

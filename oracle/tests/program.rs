@@ -10,6 +10,8 @@
 mod expect;
 #[path = "../src/inputs/mod.rs"]
 mod inputs;
+#[path = "../src/job.rs"]
+mod job;
 #[path = "../src/owed/mod.rs"]
 mod owed;
 #[path = "../src/program.rs"]
@@ -20,9 +22,8 @@ mod rng;
 use inputs::boundaries::boundaries;
 use inputs::fills::{self, Fill};
 use inputs::outlines::{Outline, block};
-use program::{
-    LAYOUT, LENT, check, end, job, program, relength, run, run_in_pieces, start, wanted_of,
-};
+use job::{LAYOUT, LENT, job, relength, wanted_of};
+use program::{check, end, program, run, run_in_pieces, start};
 use rng::Rng;
 use std::fs::File;
 use std::io::{Read, Seek, Write};

@@ -4,7 +4,11 @@ ghost use Rattle.tatami.specs.Left.{left, leftList, tatamiLeft, rowListLeft};
 ghost use Rattle.exports.specs.Stored.{ruleOf};
 ghost use Rattle.fillroom.specs.Room.{roomOf};
 ghost use Rattle.exports.specs.Fills.{settings, filled, listed};
+ghost use lib.ListN.{length};
+ghost use Rattle.jobs.specs.Job.{parsed, corners as Job·corners, ends as Job·ends, left as Job·left};
+ghost use Rattle.desk.specs.Desk.{jobLeft};
 use crate::shape::rule_of;
+use desk::fill_job;
 use fillroom::fill_room;
 use rules::Settings;
 
@@ -132,5 +136,28 @@ pub extern "C" fn beahcerot_fill_room(
     let r = fill_room(corners, ends, g, stagger);
     *floats = r.floats;
     *wholes = r.wholes;
+    r.answer
+}
+
+// A whole job by its bytes; its outline goes to the front of `corners` and `ends`.
+#[no_mangle]
+pub extern "C" fn beahcerot_fill_job(
+    bytes: &[u8],
+    corners: &mut [f64],
+    ends: &mut [usize],
+    floats: &mut [f64],
+    wholes: &mut [usize],
+    points: &mut [f64],
+    stops: &mut [usize],
+    sections: &mut u64,
+    count: &mut u64,
+) -> u64
+    ensures { λ r. ⌜ left (filled r (now (sections .exit)) (now (count .exit))) (now (points .exit)) (now (stops .exit)) (now (floats .exit)) (now (wholes .exit)) ≡ jobLeft (now (bytes .entry)) (length (now (corners .entry))) (length (now (ends .entry))) (now (points .entry)) (now (stops .entry)) (now (floats .entry)) (now (wholes .entry)) ⌝ }
+    ensures { λ _. ⌜ now (corners .exit) ≡ Job·left (parsed (now (bytes .entry)) (length (now (corners .entry))) (length (now (ends .entry)))) (Job·corners (now (bytes .entry))) (now (corners .entry)) ⌝ }
+    ensures { λ _. ⌜ now (ends .exit) ≡ Job·left (parsed (now (bytes .entry)) (length (now (corners .entry))) (length (now (ends .entry)))) (Job·ends (now (bytes .entry))) (now (ends .entry)) ⌝ }
+{
+    let r = fill_job(bytes, corners, ends, points, stops, floats, wholes);
+    *sections = r.sections;
+    *count = r.points;
     r.answer
 }

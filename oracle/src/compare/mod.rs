@@ -4,6 +4,7 @@
 
 pub mod fill;
 pub mod geom;
+mod jobs;
 pub mod leaves;
 pub mod patterns;
 mod records;
@@ -503,6 +504,11 @@ pub fn groups() -> Vec<Group> {
             name: "fill",
             functions: fill::functions(),
             replay: Some(fill::replay),
+        },
+        Group {
+            name: "jobs",
+            functions: jobs::functions(),
+            replay: None,
         },
         Group {
             name: "patterns",
