@@ -1,5 +1,5 @@
 -- What sewing both halves asks for, and the answer of the call once the rails are accepted. Definitions only.
-use Prim.Native.Nat.{ℕ, _+_, _*_, _≤_}
+use Prim.Native.Nat.{ℕ, _*_, _≤_}
 use mathlib.Core.Path.{_≡_}
 use mathlib.Core.Bool.{true}
 use mathlib.Core.List.{List}
@@ -12,10 +12,8 @@ use Rattle.satinrules.specs.Settings.{zigzagUnderlaySpacing}
 use Rattle.satinrules.specs.Pairs.{pairs}
 use Rattle.satinrules.specs.Column.{bit, spacingOf, stitches, column}
 use Rattle.satinrules.specs.Calls.{railsOf, passSteps, passed}
-use Rattle.pairing.specs.Store.{baseOf}
-use Rattle.satin.specs.Underlay.{Fit}
+use Rattle.satin.specs.Underlay.{Fit, runs}
 use Rattle.column.specs.declared.sized.Passes.{Passes}
-use Rattle.column.specs.Sized.{runs}
 
 -- the passes that are sewn are those of the settings, few enough, and a working slice of so many numbers has room for each
 pub record Ready (a b sync : List Float) (g : Satin) (ends : P) (p : Passes) (work : ℕ) : Type 0 where
@@ -25,16 +23,16 @@ pub record Ready (a b sync : List Float) (g : Satin) (ends : P) (p : Passes) (wo
   pub smallN : p .n ≤ 65537
   pub smallM : p .m ≤ 65537
   pub smallT : p .t ≤ 65537
-  pub roomN : baseOf a b + 8 * p .n ≤ work
-  pub roomM : baseOf a b + 8 * p .m ≤ work
-  pub roomT : baseOf a b + 8 * p .t ≤ work
+  pub roomN : 8 * p .n ≤ work
+  pub roomM : 8 * p .m ≤ work
+  pub roomT : 8 * p .t ≤ work
 
 -- the top's stitches, and where they stand in the working slice
 abbrev pub topPath : List Float → List Float → List Float → Satin → List Float
 topPath a b sync g = flat (stitches g (pairs (railsOf a b sync) (spacingOf g)))
 
-abbrev pub pathIn : List Float → List Float → Passes → List Float → List Float
-pathIn a b p w = take (4 * p .t) (drop (baseOf a b + 4 * p .t) w)
+abbrev pub pathIn : Passes → List Float → List Float
+pathIn p w = take (4 * p .t) (drop (4 * p .t) w)
 
 unfoldable pub columnPassed : List Float → List Float → List Float → Satin → ℕ → ℕ → ℕ
 columnPassed a b sync g work room = passed (railsOf a b sync) (passSteps g) (column (railsOf a b sync) g) work room

@@ -23,7 +23,6 @@ use Rattle.satinrules.specs.declared.Satin.{Satin}
 use Rattle.satinrules.specs.Pairs.{endsOf, few, pairs}
 use Rattle.satinrules.specs.Column.{spacingOf, stitches, underlay, top, column}
 use Rattle.satinrules.specs.Calls.{railsOf, passSteps, sized, most, mostOf, need, worked}
-use Rattle.pairing.specs.Store.{Sound}
 use Rattle.satin.specs.Underlay.{underlayCount}
 use Rattle.satin.specs.UnderlayLaws.{underlay-count, run-size}
 use Rattle.column.specs.declared.sized.Passes.{Passes}
@@ -36,14 +35,14 @@ use Rattle.column.specs.Halves.{Ready, topPath, columnPassed}
 -- ---- what is asked for
 
 -- the passes that were worked out, where the working slice is of the need
-pub ready : (a b sync : List Float) (g : Satin) {ends : P} (e : ends ≡ endsOf (railsOf a b [])) (s : Sound a b) (some : few (railsOf a b sync) ≡ false) {p : Passes} (f : p ≡ passesOf ends (points sync) g)
+pub ready : (a b sync : List Float) (g : Satin) {ends : P} (e : ends ≡ endsOf (railsOf a b [])) (some : few (railsOf a b sync) ≡ false) {p : Passes} (f : p ≡ passesOf ends (points sync) g)
     → sizedAt ends (points sync) (passSteps g) ≡ true → (work : ℕ) → need (railsOf a b sync) (mostIn p) ≤ work → Ready a b sync g ends p work
-ready a b sync g {ends} e s some {p} f ok work h =
+ready a b sync g {ends} e some {p} f ok work h =
     let small : mostIn p ≤ 65537 = rw f (most-small ends (points sync) g ok) in
     record {
-      run = run-fit a b sync g e s some f;
-      zigzag = zigzag-fit a b sync g e s some f;
-      top = top-fit a b sync g e s some f;
+      run = run-fit a b sync g e some f;
+      zigzag = zigzag-fit a b sync g e some f;
+      top = top-fit a b sync g e some f;
       smallN = omega (arith, small, most-left (p .n) (p .m), most-left (most (p .n) (p .m)) (p .t));
       smallM = omega (arith, small, most-right (p .n) (p .m), most-left (most (p .n) (p .m)) (p .t));
       smallT = omega (arith, small, most-right (most (p .n) (p .m)) (p .t));

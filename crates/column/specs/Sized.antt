@@ -1,6 +1,6 @@
 -- The passes of a column: which are sewn, and what SIZE and N are worked out from. Definitions only.
 use Prim.Native.Nat.{ℕ}
-use mathlib.Core.Bool.{Bool, _||_, cond}
+use mathlib.Core.Bool.{Bool, cond}
 use mathlib.Core.List.{List}
 use lib.Dec.{leb}
 use lib.ListN.{length}
@@ -15,11 +15,8 @@ use Rattle.satinrules.specs.Column.{bit, spacingOf}
 use Rattle.satinrules.specs.Calls.{most}
 use Rattle.pairing.specs.declared.places.Pass.{Pass}
 use Rattle.pairing.specs.Walk.{passOf, walkPlaces}
+use Rattle.satin.specs.Underlay.{runs}
 use Rattle.column.specs.declared.sized.Passes.{Passes}
-
--- whether the pass by run_len is sewn: for the centre, for the contour, or for both
-abbrev pub runs : Satin → Bool
-runs g = bit g 1 || bit g 2
 
 -- `sized`, from the place where both rails end
 unfoldable pub sizedAt : P → List P → List Float → Bool

@@ -20,15 +20,14 @@ use Rattle.satinrules.specs.Settings.{zigzagUnderlaySpacing}
 use Rattle.satinrules.specs.Pairs.{Rails, endsOf, few, countOf, pairs}
 use Rattle.satinrules.specs.Column.{onlyIf, bit, spacingOf}
 use Rattle.satinrules.specs.Calls.{railsOf, passSteps, sized, most, mostOf, need, passed}
-use Rattle.pairing.specs.Store.{Sound, baseOf}
 use Rattle.pairing.specs.declared.places.Pass.{Pass}
 use Rattle.pairing.specs.Walk.{passOf, walkPlaces}
 use Rattle.pairing.specs.WalkLaws.{places-bound}
 use Rattle.column.specs.declared.sized.Passes.{Passes}
 use Rattle.satin.specs.PassedLaws.{need-room}
-use Rattle.satin.specs.Underlay.{Fit}
+use Rattle.satin.specs.Underlay.{Fit, runs}
 use Rattle.satin.specs.UnderlayLaws.{fit-count}
-use Rattle.column.specs.Sized.{runs, sizedAt, placesIf, passesOf, mostIn}
+use Rattle.column.specs.Sized.{sizedAt, placesIf, passesOf, mostIn}
 
 -- ---- the most of two
 
@@ -128,9 +127,9 @@ module _ (a b sync : List Float) (g : Satin) {ends : P} (e : ends ≡ endsOf (ra
   unfolding sizedAt sized endsOf railsOf
   sized-is ss = rw e
 
-  module _ (s : Sound a b) (some : few (railsOf a b sync) ≡ false) where
+  module _ (some : few (railsOf a b sync) ≡ false) where
     fitted-pass : (step : Float) → Fit a b sync step ends (passOf ends (points sync) step) (length (walkPlaces ends (points sync) (passOf ends (points sync) step)))
-    fitted-pass step = record { sound = s; some = some; end = e; asked = refl; count = refl }
+    fitted-pass step = record { some = some; end = e; asked = refl; count = refl }
 
     only-count : (sewn : Bool) (step : Float) → cond sewn (length (pairs (railsOf a b sync) step)) 0 ≡ placesIf sewn ends (points sync) (passOf ends (points sync) step)
     only-count true step = fit-count (fitted-pass step)
@@ -156,13 +155,13 @@ module _ (a b sync : List Float) (g : Satin) {ends : P} (e : ends ≡ endsOf (ra
 
 -- a slice of the need holds the pairs of each pass, twice
 module _ (a b sync : List Float) (p : Passes) (work : ℕ) (h : need (railsOf a b sync) (mostIn p) ≤ work) where
-  pub run-room : baseOf a b + 8 * p .n ≤ work
+  pub run-room : 8 * p .n ≤ work
   run-room = omega (arith, need-room a b sync (mostIn p) work h, most-left (p .n) (p .m), most-left (most (p .n) (p .m)) (p .t))
 
-  pub zigzag-room : baseOf a b + 8 * p .m ≤ work
+  pub zigzag-room : 8 * p .m ≤ work
   zigzag-room = omega (arith, need-room a b sync (mostIn p) work h, most-right (p .n) (p .m), most-left (most (p .n) (p .m)) (p .t))
 
-  pub top-room : baseOf a b + 8 * p .t ≤ work
+  pub top-room : 8 * p .t ≤ work
   top-room = omega (arith, need-room a b sync (mostIn p) work h, most-right (most (p .n) (p .m)) (p .t))
 
 -- ---- which answer it is

@@ -6,13 +6,14 @@ ghost use Prim.Native.Nat.{_≤_};
 ghost use Rattle.geom.specs.Outline.{points};
 ghost use Rattle.satinrules.specs.Column.{onlyIf};
 ghost use Rattle.satinrules.specs.Calls.{passSteps, most};
-ghost use Rattle.column.specs.Sized.{runs, sizedAt, placesIf, passesOf, mostIn};
+ghost use Rattle.column.specs.Sized.{sizedAt, placesIf, passesOf, mostIn};
 use geom::P;
 use pairing::places::Pass;
 use pairing::places::count_places;
 use pairing::places::pass_of;
 use passes::top::spaced;
 use satin::matched::MOST_PAIRS;
+use satin::underlay::runs;
 use satinrules::Satin;
 
 // The passes of a column, and how many places each has; none where it isn't sewn.
@@ -23,16 +24,6 @@ pub struct Passes {
     pub m: usize,
     pub top: Pass,
     pub t: usize,
-}
-
-// Whether the pass by run_len is sewn: for the centre, for the contour, or for both.
-fn runs(g: Satin) -> bool
-    ensures { λ r. ⌜ r ≡ runs g ⌝ }
-{
-    if g.underlay % 2 == 1 {
-        return true;
-    }
-    g.underlay / 2 % 2 == 1
 }
 
 // Whether the pass that `step` asks for is small enough, where it is sewn.

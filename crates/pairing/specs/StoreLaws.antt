@@ -1,43 +1,34 @@
--- What is proved of the working slice of pairs. Assumes nothing.
+-- What is proved of the running lengths of both rails, and of the working slice of pairs. Assumes nothing.
 use Prim.Native.Nat.{ℕ, _+_, _-_, _*_, _/_, _≤_}
 use native.Mathlib.Omega.{arith}
 use mathlib.Core.Path.{_≡_, refl, sym, ap, _∙_}
 use mathlib.Core.List.{List, [], _∷_, _++_, map, append-assoc}
-use lib.ListN.{length, take, drop, length-append}
-use lib.Seq.{length-take-le, take-at, drop-at}
-use lib.Ieee.{Float}
+use lib.ListN.{length, take, drop, getD, length-append}
+use lib.Seq.{length-take-le, take-at, drop-at, getD-take, getD-drop}
+use lib.Ieee.{Float, nan}
 use Rattle.seqs.specs.Slices.{put}
 use Rattle.seqs.specs.Put.{put-length}
-use Rattle.seqs.specs.Front.{Front, front-at, front-take}
-use Rattle.seqs.specs.Wrote.{put-room}
-use Rattle.seqs.specs.Reads.{take-on, part-on}
+use Rattle.seqs.specs.Front.{Front}
+use Rattle.numbers.specs.Num.{_⊕_, zero64}
 use Rattle.geom.specs.declared.point.P.{P}
+use Rattle.geom.specs.Point.{dist}
 use Rattle.geom.specs.Outline.{points}
 use Rattle.geom.specs.OutlineLaws.{points-length}
 use Rattle.geom.specs.Sewing.{flat}
 use Rattle.geom.specs.SewingLaws.{flat-length, points-room, points-put}
+use Rattle.polyline.specs.Line.{lengthFrom, polylineLength}
 use Rattle.satinrules.specs.declared.Pair.{Pair}
-use Rattle.satinrules.specs.Arc.{lengths}
+use Rattle.satinrules.specs.Arc.{lengthsFrom, lengths}
 use Rattle.satinrules.specs.Pairs.{pairAt}
 use Rattle.satinrules.specs.Calls.{railsOf, bothPoints}
 use Rattle.arc.specs.RailLaws.{lengths-count}
 use Rattle.arc.specs.Rise.{railed}
-use Rattle.pairing.specs.Store.{Laid, Sound, baseOf, storedPairs}
+use Rattle.pairing.specs.Store.{Laid, Sound, storedPairs}
 
 pub rail-count : (l : List Float) → length (lengths (points l)) ≡ length l / 2
 rail-count l = lengths-count (points l) ∙ points-length l
 
 -- ---- the running lengths
-
--- they stand where the first numbers are kept
-pub laid-kept : {a b w₀ : List Float} (w : List Float) → Laid a b w₀ → length w ≡ length w₀ → take (length a / 2 + length b / 2) w ≡ take (length a / 2 + length b / 2) w₀ → Laid a b w
-laid-kept {a} {b} {w₀} w l s e = record {
-  room = omega (arith, l .room, s);
-  onA = take-on w w₀ (length a / 2) (length a / 2 + length b / 2) (omega arith) e ∙ l .onA;
-  onB = part-on w w₀ (length a / 2) (length b / 2) (length a / 2 + length b / 2) (omega arith) e ∙ l .onB;
-  railA = l .railA;
-  railB = l .railB;
-}
 
 module _ (a b d : List Float) (room : length a / 2 + length b / 2 ≤ length d) where
   both-count : length (lengths (points a) ++ lengths (points b)) ≡ length a / 2 + length b / 2
@@ -80,24 +71,24 @@ module _ (a b sync : List Float) where
   stored-length ps = omega (arith, flat-length (bothPoints (map (pairAt (railsOf a b sync)) ps)), both-length (map (pairAt (railsOf a b sync)) ps), map-length ps)
 
   -- the pair at p is next
-  module _ {d₀ d : List Float} {to : ℕ} (base : ℕ) (p : P) (rest whole : List P)
-      (f : Front d₀ d to (storedPairs a b sync (p ∷ rest)) (take base d₀ ++ storedPairs a b sync whole))
-      (fits : base + 4 * length whole ≤ length d₀) where
+  module _ {d₀ d : List Float} {to : ℕ} (p : P) (rest whole : List P)
+      (f : Front d₀ d to (storedPairs a b sync (p ∷ rest)) (storedPairs a b sync whole))
+      (fits : 4 * length whole ≤ length d₀) where
     both : List P
     both = pairAt (railsOf a b sync) p .a ∷ pairAt (railsOf a b sync) p .b ∷ []
 
-    up : Front d₀ d to (flat (both ++ bothPoints (map (pairAt (railsOf a b sync)) rest))) (take base d₀ ++ storedPairs a b sync whole)
+    up : Front d₀ d to (flat (both ++ bothPoints (map (pairAt (railsOf a b sync)) rest))) (storedPairs a b sync whole)
     unfolding both bothPoints
     up = f
 
-    room : length (take base d₀ ++ storedPairs a b sync whole) ≤ length d₀
-    room = put-room d₀ (storedPairs a b sync whole) base (omega (arith, stored-length whole))
+    room : length (storedPairs a b sync whole) ≤ length d₀
+    room = omega (arith, fits, stored-length whole)
 
     pub pair-room : to + 4 ≤ length d
     unfolding both
     pair-room = omega (arith, points-room both (bothPoints (map (pairAt (railsOf a b sync)) rest)) up room)
 
-    pub pair-put : (y : List Float) → y ≡ put d to (flat (pairAt (railsOf a b sync) p .a ∷ pairAt (railsOf a b sync) p .b ∷ [])) → Front d₀ y (to + 4) (storedPairs a b sync rest) (take base d₀ ++ storedPairs a b sync whole)
+    pub pair-put : (y : List Float) → y ≡ put d to (flat (pairAt (railsOf a b sync) p .a ∷ pairAt (railsOf a b sync) p .b ∷ [])) → Front d₀ y (to + 4) (storedPairs a b sync rest) (storedPairs a b sync whole)
     unfolding both
     pair-put y e = points-put both (bothPoints (map (pairAt (railsOf a b sync)) rest)) up room y e
 
@@ -105,24 +96,42 @@ pub stored-none : (a b sync : List Float) → storedPairs a b sync [] ≡ []
 unfolding bothPoints flat
 stored-none a b sync = refl
 
--- the running lengths stand while pairs are written from base on
-pub laid-front : (a b : List Float) {w₀ w rest : List Float} {to : ℕ} (x : List Float) (base : ℕ) → Laid a b w₀ → length a / 2 + length b / 2 ≤ base → base ≤ to → Front w₀ w to rest (take base w₀ ++ x) → Laid a b w
-laid-front a b {w₀} {w} {rest} x base l h k f = laid-kept w l (f .len) (front-take rest x base (length a / 2 + length b / 2) f k h)
-
 -- what was put is read back
 pub put-back : (d m : List Float) (k : ℕ) → k ≤ length d → take (length m) (drop k (put d k m)) ≡ m
 put-back d m k h =
     let rest = drop (length (take k d ++ m)) d in
     ap (λ l. take (length m) (drop k l)) (append-assoc (take k d) m rest) ∙ ap (take (length m)) (drop-at (take k d) (m ++ rest) k (length-take-le k d h)) ∙ take-at m rest (length m) refl
 
--- the running lengths, and then the pairs
-module _ (a b sync : List Float) (ps : List P) (d d₁ : List Float) (fits : baseOf a b + 4 * length ps ≤ length d) (e : d₁ ≡ put d 0 (lengths (points a) ++ lengths (points b))) where
-  pub stored-room : baseOf a b + 4 * length ps ≤ length d₁
-  stored-room = omega (arith, fits, rails-size a b d (omega arith) d₁ e)
+-- ---- the lengths of the rails
 
-  module _ (y : List Float) (f : y ≡ put d₁ (baseOf a b) (storedPairs a b sync ps)) where
-    pub stored-size : length y ≡ length d
-    stored-size = ap length f ∙ put-length d₁ (storedPairs a b sync ps) (baseOf a b) (omega (arith, stored-room, stored-length a b sync ps)) ∙ rails-size a b d (omega arith) d₁ e
+last-from : (s : Float) (p : P) (ps : List P) → getD (s ∷ lengthsFrom s p ps) (length ps) nan ≡ lengthFrom s p ps
+unfolding lengthsFrom lengthFrom
+last-from s p [] = refl
+last-from s p (q ∷ ps) = last-from (s ⊕ dist p q) q ps
 
-    pub stored-back : take (4 * length ps) (drop (baseOf a b) y) ≡ storedPairs a b sync ps
-    stored-back = rw (f, ← stored-length a b sync ps) (put-back d₁ (storedPairs a b sync ps) (baseOf a b) (omega (arith, stored-room)))
+-- the last of a rail's running lengths is its length
+last-length : (ps : List P) → 1 ≤ length ps → getD (lengths ps) (length ps - 1) nan ≡ polylineLength ps
+unfolding lengths polylineLength
+last-length [] h = absurd (omega arith)
+last-length (p ∷ ps) h = let e : length (p ∷ ps) - 1 ≡ length ps = omega arith in rw e (last-from zero64 p ps)
+
+module _ {a b rails : List Float} (l : Laid a b rails) where
+  pub last-a : getD rails (length a / 2 - 1) nan ≡ polylineLength (points a)
+  last-a =
+      let n : 1 ≤ length a / 2 = omega (arith, l .railA .some, rail-count a) in
+      sym (getD-take (length a / 2) rails (length a / 2 - 1) nan (omega (arith, n))) ∙ ap (λ (r : List Float). getD r (length a / 2 - 1) nan) (l .onA)
+      ∙ ap (λ (k : ℕ). getD (lengths (points a)) (k - 1) nan) (sym (points-length a)) ∙ last-length (points a) (omega (arith, n, points-length a))
+
+  pub last-b : getD rails (length a / 2 + length b / 2 - 1) nan ≡ polylineLength (points b)
+  last-b =
+      let n : 1 ≤ length b / 2 = omega (arith, l .railB .some, rail-count b) in
+      let e : length a / 2 + (length b / 2 - 1) ≡ length a / 2 + length b / 2 - 1 = omega (arith, n) in
+      ap (λ (k : ℕ). getD rails k nan) (sym e) ∙ sym (getD-drop (length a / 2) rails (length b / 2 - 1) nan)
+      ∙ sym (getD-take (length b / 2) (drop (length a / 2) rails) (length b / 2 - 1) nan (omega (arith, n))) ∙ ap (λ (r : List Float). getD r (length b / 2 - 1) nan) (l .onB)
+      ∙ ap (λ (k : ℕ). getD (lengths (points b)) (k - 1) nan) (sym (points-length b)) ∙ last-length (points b) (omega (arith, n, points-length b))
+
+  pub some-a : 1 ≤ length a / 2
+  some-a = omega (arith, l .railA .some, rail-count a)
+
+  pub some-b : 1 ≤ length b / 2
+  some-b = omega (arith, l .railB .some, rail-count b)

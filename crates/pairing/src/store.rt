@@ -1,8 +1,8 @@
-// The pairs of a pass in the working slice: first the running lengths of both rails, and from `base` on four numbers for each pair.
+// The running lengths of both rails, laid once for a call, and by them the pairs of a pass: four numbers each, at the front of the working slice.
 ghost use mathlib.Core.Path.{_≡_};
 ghost use mathlib.Core.List.{[], _∷_, _++_, map};
 ghost use Prim.Native.Nat.{_+_, _*_, _/_, _^_, _<_, _≤_};
-ghost use lib.ListN.{length, take, drop};
+ghost use lib.ListN.{length, take};
 ghost use Rattle.seqs.specs.Slices.{put};
 ghost use Rattle.geom.specs.Outline.{points};
 ghost use Rattle.geom.specs.Sewing.{flat};
@@ -10,7 +10,7 @@ ghost use Rattle.satinrules.specs.Arc.{lengths, railAt};
 ghost use Rattle.satinrules.specs.Pairs.{pairAt};
 ghost use Rattle.satinrules.specs.Calls.{railsOf, bothPoints};
 ghost use Rattle.pairing.specs.Walk.{walkPlaces};
-ghost use Rattle.pairing.specs.Store.{Laid, Sound, baseOf, storedPairs};
+ghost use Rattle.pairing.specs.Store.{Laid, Sound, storedPairs};
 use crate::places::Pass;
 use crate::places::first_place;
 use crate::places::next_place;
@@ -20,24 +20,24 @@ use geom::P;
 use geom::sewing::put_point;
 use satinrules::Pair;
 
-// The running lengths of both rails, to the front of w.
-pub fn put_rails(w: &mut [f64], a: &[f64], b: &[f64])
-    requires { ⌜ length (now a) / 2 + length (now b) / 2 ≤ length (now w) ⌝ }
-    ensures { λ _. ⌜ now (w .exit) ≡ put (now (w .entry)) 0 (lengths (points (now (a .entry))) ++ lengths (points (now (b .entry)))) ⌝ }
+// The running lengths of both rails, one after the other, to the front of `rails`.
+pub fn put_rails(rails: &mut [f64], a: &[f64], b: &[f64])
+    requires { ⌜ Sound (now a) (now b) × (length (now a) / 2 + length (now b) / 2 ≤ length (now rails)) ⌝ }
+    ensures { λ _. ⌜ Laid (now (a .entry)) (now (b .entry)) (now (rails .exit)) ⌝ }
 {
-    put_lengths(w, 0, a);
-    put_lengths(w, a.len() / 2, b);
+    put_lengths(rails, 0, a);
+    put_lengths(rails, a.len() / 2, b);
 }
 
 // The pair at a place.
-pub fn pair_at(a: &[f64], b: &[f64], w: &[f64], place: P) -> Pair
-    requires { ⌜ Laid (now a) (now b) (now w) ⌝ }
+pub fn pair_at(rails: &[f64], a: &[f64], b: &[f64], place: P) -> Pair
+    requires { ⌜ Laid (now a) (now b) (now rails) ⌝ }
     ensures { λ r. ⌜ r ≡ record { a = railAt (points (now (a .entry))) (place .x); b = railAt (points (now (b .entry))) (place .y) } ⌝ }
 {
     let m = a.len() / 2;
     let n = b.len() / 2;
-    let p = along(a, &w[0..m], place.x);
-    let q = along(b, &w[m..m + n], place.y);
+    let p = along(a, &rails[0..m], place.x);
+    let q = along(b, &rails[m..m + n], place.y);
     Pair { a: p, b: q }
 }
 
@@ -52,37 +52,28 @@ pub fn put_pair(w: &mut [f64], to: usize, q: Pair)
     put_point(w, to + 2, b);
 }
 
-// The pairs of a pass, from `base` on.
-pub fn put_pairs(
+// The pairs of a pass, to the front of w.
+pub fn lay_pairs(
     w: &mut [f64],
-    base: usize,
+    rails: &[f64],
     a: &[f64],
     b: &[f64],
     sync: &[f64],
     ends: P,
     pass: Pass,
 )
-    requires { ⌜ Laid (now a) (now b) (now w) × (length (now a) / 2 + length (now b) / 2 ≤ base) × (base + 4 * length (walkPlaces ends (points (now sync)) pass) ≤ length (now w)) ⌝ }
-    ensures { λ _. ⌜ now (w .exit) ≡ put (now (w .entry)) base (storedPairs (now (a .entry)) (now (b .entry)) (now (sync .entry)) (walkPlaces ends (points (now (sync .entry))) pass)) ⌝ }
+    requires { ⌜ Laid (now a) (now b) (now rails) × (4 * length (walkPlaces ends (points (now sync)) pass) ≤ length (now w)) ⌝ }
+    ensures { λ _. ⌜ (length (now (w .exit)) ≡ length (now (w .entry))) × (take (4 * length (walkPlaces ends (points (now (sync .entry))) pass)) (now (w .exit)) ≡ storedPairs (now (a .entry)) (now (b .entry)) (now (sync .entry)) (walkPlaces ends (points (now (sync .entry))) pass)) ⌝ }
 {
     let mut f = first_place(sync, ends, pass);
-    let mut to = base;
+    let mut to = 0;
     while f.found {
-        let q = pair_at(a, b, w, f.place);
+        let q = pair_at(rails, a, b, f.place);
         put_pair(w, to, q);
         let walk = f.walk;
         f = next_place(sync, ends, pass.step, walk);
         to += 4;
     }
-    let q = pair_at(a, b, w, ends);
+    let q = pair_at(rails, a, b, ends);
     put_pair(w, to, q);
-}
-
-// The running lengths of both rails, and behind them the pairs of a pass.
-pub fn lay_pairs(w: &mut [f64], a: &[f64], b: &[f64], sync: &[f64], ends: P, pass: Pass)
-    requires { ⌜ Sound (now a) (now b) × (baseOf (now a) (now b) + 4 * length (walkPlaces ends (points (now sync)) pass) ≤ length (now w)) ⌝ }
-    ensures { λ _. ⌜ (length (now (w .exit)) ≡ length (now (w .entry))) × (take (4 * length (walkPlaces ends (points (now (sync .entry))) pass)) (drop (baseOf (now (a .entry)) (now (b .entry))) (now (w .exit))) ≡ storedPairs (now (a .entry)) (now (b .entry)) (now (sync .entry)) (walkPlaces ends (points (now (sync .entry))) pass)) ⌝ }
-{
-    put_rails(w, a, b);
-    put_pairs(w, a.len() / 2 + b.len() / 2, a, b, sync, ends, pass);
 }

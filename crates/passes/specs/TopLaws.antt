@@ -4,8 +4,8 @@ use native.Mathlib.Omega.{arith}
 use mathlib.Core.Path.{_≡_, refl, sym, ap, _∙_}
 use mathlib.Core.Bool.{Bool, true, false, not, _&&_}
 use mathlib.Core.List.{List, [], _∷_, _++_}
-use lib.ListN.{length, take, drop, getD, length-append, length-drop}
-use lib.Seq.{length-take-le, getD-take, getD-drop}
+use lib.ListN.{length, take, drop, getD}
+use lib.Seq.{length-take-le, getD-take}
 use lib.Ieee.{Float, nan}
 use Rattle.numbers.specs.Num.{_⊗_}
 use Rattle.seqs.specs.Slices.{put}
@@ -52,68 +52,68 @@ module _ (g : Satin) (second : Bool) (o q : Pair) where
   pub stitch-long : g .«short_stitches» ≡ false → stitch g second o q ≡ widened g q .a ∷ widened g q .b ∷ []
   stitch-long e = long (rw e)
 
--- ---- n pairs stand in w₀ from base on
-module _ (w₀ : List Float) (base n : ℕ) (has : base + 4 * n ≤ length w₀) where
+-- ---- n pairs stand at the front of w₀
+module _ (w₀ : List Float) (n : ℕ) (has : 4 * n ≤ length w₀) where
   abbrev pub stand : List Pair
-  stand = pairsIn (points (take (4 * n) (drop base w₀)))
+  stand = pairsIn (points (take (4 * n) w₀))
 
-  part-length : length (take (4 * n) (drop base w₀)) ≡ 4 * n
-  part-length = length-take-le (4 * n) (drop base w₀) (omega (arith, length-drop base w₀))
+  part-length : length (take (4 * n) w₀) ≡ 4 * n
+  part-length = length-take-le (4 * n) w₀ has
 
-  pub stand-length : length (pairsIn (points (take (4 * n) (drop base w₀)))) ≡ n
-  stand-length = omega (arith, slice-length (take (4 * n) (drop base w₀)), part-length)
+  pub stand-length : length (pairsIn (points (take (4 * n) w₀))) ≡ n
+  stand-length = omega (arith, slice-length (take (4 * n) w₀), part-length)
 
-  part-read : (j i : ℕ) → j < 4 * n → base + j ≡ i → getD (take (4 * n) (drop base w₀)) j nan ≡ getD w₀ i nan
-  part-read j i h e = getD-take (4 * n) (drop base w₀) j nan h ∙ getD-drop base w₀ j nan ∙ rw e
+  part-read : (j : ℕ) → j < 4 * n → getD (take (4 * n) w₀) j nan ≡ getD w₀ j nan
+  part-read j h = getD-take (4 * n) w₀ j nan h
 
-  pub stand-at : (k : ℕ) → k < n → getD (pairsIn (points (take (4 * n) (drop base w₀)))) k noPair ≡ pairIn w₀ (base + 4 * k)
+  pub stand-at : (k : ℕ) → k < n → getD (pairsIn (points (take (4 * n) w₀))) k noPair ≡ pairIn w₀ (4 * k)
   stand-at k h =
-      slice-at (take (4 * n) (drop base w₀)) k (omega (arith, part-length))
-      ∙ rw (part-read (4 * k) (base + 4 * k) (omega arith) refl, part-read (4 * k + 1) (base + 4 * k + 1) (omega arith) (omega arith), part-read (4 * k + 2) (base + 4 * k + 2) (omega arith) (omega arith), part-read (4 * k + 2 + 1) (base + 4 * k + 2 + 1) (omega arith) (omega arith))
+      slice-at (take (4 * n) w₀) k (omega (arith, part-length))
+      ∙ rw (part-read (4 * k) (omega arith), part-read (4 * k + 1) (omega arith), part-read (4 * k + 2) (omega arith), part-read (4 * k + 2 + 1) (omega arith))
 
-  stand-next : (k : ℕ) → k < n → drop k (pairsIn (points (take (4 * n) (drop base w₀)))) ≡ pairIn w₀ (base + 4 * k) ∷ drop (k + 1) (pairsIn (points (take (4 * n) (drop base w₀))))
-  stand-next k h = next (pairsIn (points (take (4 * n) (drop base w₀)))) k noPair (omega (arith, stand-length)) ∙ ap (λ (q : Pair). q ∷ drop (k + 1) (pairsIn (points (take (4 * n) (drop base w₀))))) (stand-at k h)
+  stand-next : (k : ℕ) → k < n → drop k (pairsIn (points (take (4 * n) w₀))) ≡ pairIn w₀ (4 * k) ∷ drop (k + 1) (pairsIn (points (take (4 * n) w₀)))
+  stand-next k h = next (pairsIn (points (take (4 * n) w₀))) k noPair (omega (arith, stand-length)) ∙ ap (λ (q : Pair). q ∷ drop (k + 1) (pairsIn (points (take (4 * n) w₀)))) (stand-at k h)
 
   -- they are read as they stood, whatever is written behind them
-  module _ {w : List Float} {to : ℕ} {rest : List Float} (x : List Float) (f : Front w₀ w to rest (take (base + 4 * n) w₀ ++ x)) (le : base + 4 * n ≤ to) where
-    read-kept : (j : ℕ) → j < base + 4 * n → getD w j nan ≡ getD w₀ j nan
-    read-kept j h = front-kept x (base + 4 * n) (base + 4 * n) j nan f le h (omega arith) ∙ getD-take (base + 4 * n) w₀ j nan h
+  module _ {w : List Float} {to : ℕ} {rest : List Float} (x : List Float) (f : Front w₀ w to rest (take (4 * n) w₀ ++ x)) (le : 4 * n ≤ to) where
+    read-kept : (j : ℕ) → j < 4 * n → getD w j nan ≡ getD w₀ j nan
+    read-kept j h = front-kept x (4 * n) (4 * n) j nan f le h (omega arith) ∙ getD-take (4 * n) w₀ j nan h
 
-    pub pair-kept : (k : ℕ) → k < n → pairIn w (base + 4 * k) ≡ pairIn w₀ (base + 4 * k)
-    pair-kept k h = rw (read-kept (base + 4 * k) (omega arith), read-kept (base + 4 * k + 1) (omega arith), read-kept (base + 4 * k + 2) (omega arith), read-kept (base + 4 * k + 2 + 1) (omega arith))
+    pub pair-kept : (k : ℕ) → k < n → pairIn w (4 * k) ≡ pairIn w₀ (4 * k)
+    pair-kept k h = rw (read-kept (4 * k) (omega arith), read-kept (4 * k + 1) (omega arith), read-kept (4 * k + 2) (omega arith), read-kept (4 * k + 2 + 1) (omega arith))
 
-  pub stitches-start : (g : Satin) → 1 ≤ n → stitches g (pairsIn (points (take (4 * n) (drop base w₀)))) ≡ stitchesFrom g false (pairIn w₀ base) (pairsIn (points (take (4 * n) (drop base w₀))))
+  pub stitches-start : (g : Satin) → 1 ≤ n → stitches g (pairsIn (points (take (4 * n) w₀))) ≡ stitchesFrom g false (pairIn w₀ 0) (pairsIn (points (take (4 * n) w₀)))
   unfolding stitches
-  stitches-start g h = let e : base + 4 * 0 ≡ base = omega arith in rw (rw e at (stand-next 0 (omega arith)))
+  stitches-start g h = rw (stand-next 0 (omega arith))
 
-  pub stitches-none : (g : Satin) (second : Bool) (o : Pair) (k : ℕ) → n ≤ k → stitchesFrom g second o (drop k (pairsIn (points (take (4 * n) (drop base w₀))))) ≡ []
+  pub stitches-none : (g : Satin) (second : Bool) (o : Pair) (k : ℕ) → n ≤ k → stitchesFrom g second o (drop k (pairsIn (points (take (4 * n) w₀)))) ≡ []
   unfolding stitchesFrom
-  stitches-none g second o k h = rw (none (pairsIn (points (take (4 * n) (drop base w₀)))) k (omega (arith, stand-length)))
+  stitches-none g second o k h = rw (none (pairsIn (points (take (4 * n) w₀))) k (omega (arith, stand-length)))
 
   stitches-next : (g : Satin) (second : Bool) (o : Pair) (k : ℕ) → k < n
-      → stitchesFrom g second o (drop k (pairsIn (points (take (4 * n) (drop base w₀))))) ≡ stitch g second o (pairIn w₀ (base + 4 * k)) ++ stitchesFrom g (not second) (pairIn w₀ (base + 4 * k)) (drop (k + 1) (pairsIn (points (take (4 * n) (drop base w₀)))))
+      → stitchesFrom g second o (drop k (pairsIn (points (take (4 * n) w₀)))) ≡ stitch g second o (pairIn w₀ (4 * k)) ++ stitchesFrom g (not second) (pairIn w₀ (4 * k)) (drop (k + 1) (pairsIn (points (take (4 * n) w₀))))
   unfolding stitchesFrom
   stitches-next g second o k h = rw (stand-next k h)
 
   -- the stitch of pair k is next
-  module _ (room : base + 8 * n ≤ length w₀) (g : Satin) (second : Bool) (o : Pair) (k : ℕ) (more : k < n) {w : List Float} {to : ℕ}
-      (f : Front w₀ w to (flat (stitchesFrom g second o (drop k (pairsIn (points (take (4 * n) (drop base w₀))))))) (take (base + 4 * n) w₀ ++ flat (stitches g (pairsIn (points (take (4 * n) (drop base w₀))))))) where
+  module _ (room : 8 * n ≤ length w₀) (g : Satin) (second : Bool) (o : Pair) (k : ℕ) (more : k < n) {w : List Float} {to : ℕ}
+      (f : Front w₀ w to (flat (stitchesFrom g second o (drop k (pairsIn (points (take (4 * n) w₀)))))) (take (4 * n) w₀ ++ flat (stitches g (pairsIn (points (take (4 * n) w₀)))))) where
     abbrev here : List P
-    here = stitch g second o (pairIn w₀ (base + 4 * k))
+    here = stitch g second o (pairIn w₀ (4 * k))
 
     abbrev later : List P
-    later = stitchesFrom g (not second) (pairIn w₀ (base + 4 * k)) (drop (k + 1) (pairsIn (points (take (4 * n) (drop base w₀)))))
+    later = stitchesFrom g (not second) (pairIn w₀ (4 * k)) (drop (k + 1) (pairsIn (points (take (4 * n) w₀))))
 
-    up : Front w₀ w to (flat (here ++ later)) (take (base + 4 * n) w₀ ++ flat (stitches g (pairsIn (points (take (4 * n) (drop base w₀))))))
+    up : Front w₀ w to (flat (here ++ later)) (take (4 * n) w₀ ++ flat (stitches g (pairsIn (points (take (4 * n) w₀)))))
     up = front-at (ap flat (stitches-next g second o k more)) f
 
-    whole : length (take (base + 4 * n) w₀ ++ flat (stitches g (pairsIn (points (take (4 * n) (drop base w₀)))))) ≤ length w₀
-    whole = put-room w₀ (flat (stitches g (pairsIn (points (take (4 * n) (drop base w₀)))))) (base + 4 * n) (omega (arith, room, flat-length (stitches g (pairsIn (points (take (4 * n) (drop base w₀))))), stitches-length g (pairsIn (points (take (4 * n) (drop base w₀)))), stand-length))
+    whole : length (take (4 * n) w₀ ++ flat (stitches g (pairsIn (points (take (4 * n) w₀))))) ≤ length w₀
+    whole = put-room w₀ (flat (stitches g (pairsIn (points (take (4 * n) w₀))))) (4 * n) (omega (arith, room, flat-length (stitches g (pairsIn (points (take (4 * n) w₀)))), stitches-length g (pairsIn (points (take (4 * n) w₀))), stand-length))
 
     pub stitch-room : to + 4 ≤ length w
     unfolding stitch
     stitch-room = omega (arith, points-room here later up whole)
 
-    pub stitch-put : (y : List Float) → y ≡ put w to (flat (stitch g second o (pairIn w₀ (base + 4 * k)))) → Front w₀ y (to + 4) (flat (stitchesFrom g (not second) (pairIn w₀ (base + 4 * k)) (drop (k + 1) (pairsIn (points (take (4 * n) (drop base w₀))))))) (take (base + 4 * n) w₀ ++ flat (stitches g (pairsIn (points (take (4 * n) (drop base w₀))))))
+    pub stitch-put : (y : List Float) → y ≡ put w to (flat (stitch g second o (pairIn w₀ (4 * k)))) → Front w₀ y (to + 4) (flat (stitchesFrom g (not second) (pairIn w₀ (4 * k)) (drop (k + 1) (pairsIn (points (take (4 * n) w₀)))))) (take (4 * n) w₀ ++ flat (stitches g (pairsIn (points (take (4 * n) w₀)))))
     unfolding stitch
     stitch-put y e = points-put here later up whole y e

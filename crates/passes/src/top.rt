@@ -2,7 +2,7 @@
 ghost use mathlib.Core.Path.{_≡_};
 ghost use mathlib.Core.List.{[], _∷_};
 ghost use Prim.Native.Nat.{_+_, _*_, _^_, _<_, _≤_};
-ghost use lib.ListN.{length, take, drop};
+ghost use lib.ListN.{length, take};
 ghost use Rattle.seqs.specs.Slices.{put, capped};
 ghost use Rattle.geom.specs.Outline.{points};
 ghost use Rattle.geom.specs.Sewing.{flat};
@@ -82,17 +82,17 @@ fn stitch(g: Satin, second: bool, o: Pair, q: Pair) -> Pair
     w
 }
 
-// The top's stitches over the n pairs from `base` on, behind them.
-pub fn put_stitches(w: &mut [f64], base: usize, n: usize, g: Satin)
-    requires { ⌜ (1 ≤ n) × (base + 8 * n ≤ length (now w)) ⌝ }
-    ensures { λ _. ⌜ now (w .exit) ≡ put (now (w .entry)) (base + 4 * n) (flat (stitches g (pairsIn (points (take (4 * n) (drop base (now (w .entry)))))))) ⌝ }
+// The top's stitches over the n pairs at the front, behind them.
+pub fn put_stitches(w: &mut [f64], n: usize, g: Satin)
+    requires { ⌜ (1 ≤ n) × (8 * n ≤ length (now w)) ⌝ }
+    ensures { λ _. ⌜ now (w .exit) ≡ put (now (w .entry)) (4 * n) (flat (stitches g (pairsIn (points (take (4 * n) (now (w .entry))))))) ⌝ }
 {
-    let mut o = pair_in(w, base);
+    let mut o = pair_in(w, 0);
     let mut second = false;
-    let mut to = base + 4 * n;
+    let mut to = 4 * n;
     let mut k = 0;
     while k < n {
-        let q = pair_in(w, base + 4 * k);
+        let q = pair_in(w, 4 * k);
         put_pair(w, to, stitch(g, second, o, q));
         o = q;
         second = !second;

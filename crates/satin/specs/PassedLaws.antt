@@ -8,7 +8,7 @@ use mathlib.Core.List.{List, [], _∷_, _++_, map}
 use lib.Dec.{leb, ltb, eqb}
 use lib.ListN.{length, drop, length-append, length-drop}
 use lib.Ieee.{Float}
-use borrow.Author.Tests.{le-leb, lt-leb, ne-eqb, eqb-true, ltb-false}
+use borrow.Author.Tests.{le-leb, lt-leb, leb-true, ne-eqb, eqb-true, ltb-false}
 use Rattle.refusal.specs.Refusal.{DONE, LAYOUT, NUMBER, SETTING, SIZE, WORK, ROOM, unless, _then_}
 use Rattle.seqs.specs.Tests.{and-both, either, clash}
 use Rattle.geom.specs.declared.point.P.{P}
@@ -20,7 +20,7 @@ use Rattle.limits.specs.Limits.{mostPairs, goodLine, goodNumbers, goodStep}
 use Rattle.satinrules.specs.declared.Pair.{Pair}
 use Rattle.satinrules.specs.Pairs.{endsOf, few, countOf, places, pairAt, pairs}
 use Rattle.satinrules.specs.Calls.{railsOf, goodSync, goodRails, sized, mostOf, need, passed, worked, bothPoints, pairsRefusal}
-use Rattle.pairing.specs.Store.{Sound, baseOf, storedPairs}
+use Rattle.pairing.specs.Store.{Sound, storedPairs}
 use Rattle.pairing.specs.StoreLaws.{stored-length}
 use Rattle.pairing.specs.declared.places.Pass.{Pass}
 use Rattle.pairing.specs.Walk.{passOf, walkPlaces}
@@ -38,6 +38,10 @@ through false n m e = let h = rw (ne-eqb (suc n) 0 (λ q. omega arith)) at e in 
 even : (l : List Float) → goodLine l ≡ true → length l % 2 ≡ 0
 unfolding goodLine
 even l h = eqb-true _ _ (and-both (eqb (length l % 2) 0) (leb (length l / 2) 1024) h .0)
+
+short : (l : List Float) → goodLine l ≡ true → length l / 2 ≤ 1024
+unfolding goodLine
+short l h = leb-true _ _ (and-both (eqb (length l % 2) 0) (leb (length l / 2) 1024) h .1)
 
 corners : (x y : Bool) → (x || y) ≡ false → (x ≡ false) × (y ≡ false)
 corners true y e = clash refl e
@@ -63,6 +67,8 @@ sound a b sync h f =
       evenB = even b (t2 .0);
       someA = omega (arith, ltb-false (length (points a)) 2 (c .0), points-length a);
       someB = omega (arith, ltb-false (length (points b)) 2 (c .1), points-length b);
+      fewA = short a (t1 .0);
+      fewB = short b (t2 .0);
       goodA = t4 .0;
       goodB = t5 .0;
     }
@@ -149,9 +155,9 @@ module _ (a b sync : List Float) (step : Float) {ends : P} {w : Pass} (e : ends 
   pass-places = rw (f, e) (places-are (endsOf (railsOf a b [])) (points sync) step)
 
 -- the need holds the pairs, twice
-pub need-room : (a b sync : List Float) (n work : ℕ) → need (railsOf a b sync) n ≤ work → baseOf a b + 8 * n ≤ work
+pub need-room : (a b sync : List Float) (n work : ℕ) → need (railsOf a b sync) n ≤ work → 8 * n ≤ work
 unfolding need railsOf
-need-room a b sync n work h = omega (arith, h, points-length a, points-length b)
+need-room a b sync n work h = omega (arith, h)
 
 -- whether a rail has too few corners doesn't hang on the sync points
 pub few-any : (a b sync : List Float) → few (railsOf a b []) ≡ few (railsOf a b sync)

@@ -3,7 +3,7 @@ use Prim.Native.Nat.{ℕ, _+_, _*_, _/_, _%_, _≤_}
 use native.Mathlib.Omega.{arith}
 use mathlib.Core.Path.{_≡_, refl, sym, ap, _∙_}
 use mathlib.Core.Bool.{Bool, true, false, not, _||_, cond}
-use mathlib.Core.List.{List, [], _∷_, _++_}
+use mathlib.Core.List.{List, [], _∷_, _++_, append-assoc}
 use lib.Dec.{eqb}
 use lib.ListN.{length, take, drop, length-append, length-reverse}
 use lib.Ieee.{Float}
@@ -25,7 +25,7 @@ use Rattle.satinrules.specs.Calls.{railsOf}
 use Rattle.pairing.specs.declared.places.Pass.{Pass}
 use Rattle.pairing.specs.Walk.{walkPlaces}
 use Rattle.pairing.specs.WalkLaws.{places-count}
-use Rattle.pairing.specs.Store.{baseOf, storedPairs}
+use Rattle.pairing.specs.Store.{storedPairs}
 use Rattle.pairing.specs.StoreLaws.{put-back}
 use Rattle.passes.specs.declared.threads.Thread.{Thread}
 use Rattle.passes.specs.declared.threads.Thread.the-variants.{Middle, SideA, SideB, Alternate}
@@ -34,7 +34,7 @@ use Rattle.passes.specs.ThreadsLaws.{thread-length, middle-thread, a-thread, b-
 use Rattle.passes.specs.TopLaws.{stitches-length}
 use Rattle.satin.specs.Passed.{placed}
 use Rattle.satin.specs.PassedLaws.{pass-places, placed-in}
-use Rattle.satin.specs.Underlay.{Fit, underlayCount}
+use Rattle.satin.specs.Underlay.{Fit, runs, overIf, runsOver, underlayCount}
 
 pub turned-length : (l : List P) (back : Bool) → length (turnedIf back l) ≡ length l
 turned-length l true = length-reverse l
@@ -56,16 +56,16 @@ module _ {a b sync : List Float} {step : Float} {ends : P} {pass : Pass} {n : �
   fit-some = omega (arith, f .count, places-count ends (points sync) pass)
 
   -- the pairs as they stand once they are laid
-  pub fit-laid : (w : List Float) → take (4 * length (walkPlaces ends (points sync) pass)) (drop (baseOf a b) w) ≡ storedPairs a b sync (walkPlaces ends (points sync) pass) → pairsIn (points (take (4 * n) (drop (baseOf a b) w))) ≡ pairs (railsOf a b sync) step
-  fit-laid w e = rw (f .count) (placed-in a b sync (take (4 * length (walkPlaces ends (points sync) pass)) (drop (baseOf a b) w)) (walkPlaces ends (points sync) pass) e ∙ fit-pairs)
+  pub fit-laid : (w : List Float) → take (4 * length (walkPlaces ends (points sync) pass)) w ≡ storedPairs a b sync (walkPlaces ends (points sync) pass) → pairsIn (points (take (4 * n) w)) ≡ pairs (railsOf a b sync) step
+  fit-laid w e = rw (f .count) (placed-in a b sync (take (4 * length (walkPlaces ends (points sync) pass)) w) (walkPlaces ends (points sync) pass) e ∙ fit-pairs)
 
   -- the stitches over them, read back from behind them
-  pub fit-stitches : (g : Satin) (d y : List Float) → baseOf a b + 8 * n ≤ length d → y ≡ put d (baseOf a b + 4 * n) (flat (stitches g (pairs (railsOf a b sync) step)))
-      → (length y ≡ length d) × (take (4 * n) (drop (baseOf a b + 4 * n) y) ≡ flat (stitches g (pairs (railsOf a b sync) step)))
+  pub fit-stitches : (g : Satin) (d y : List Float) → 8 * n ≤ length d → y ≡ put d (4 * n) (flat (stitches g (pairs (railsOf a b sync) step)))
+      → (length y ≡ length d) × (take (4 * n) (drop (4 * n) y) ≡ flat (stitches g (pairs (railsOf a b sync) step)))
   fit-stitches g d y h e =
       let m = flat (stitches g (pairs (railsOf a b sync) step)) in
       let s : length m ≡ 4 * n = omega (arith, flat-length (stitches g (pairs (railsOf a b sync) step)), stitches-length g (pairs (railsOf a b sync) step), fit-count) in
-      (ap length e ∙ put-length d m (baseOf a b + 4 * n) (omega (arith, s)), ap (λ (k : ℕ). take k (drop (baseOf a b + 4 * n) y)) (sym s) ∙ ap (λ (l : List Float). take (length m) (drop (baseOf a b + 4 * n) l)) e ∙ put-back d m (baseOf a b + 4 * n) (omega arith))
+      (ap length e ∙ put-length d m (4 * n) (omega (arith, s)), ap (λ (k : ℕ). take k (drop (4 * n) y)) (sym s) ∙ ap (λ (l : List Float). take (length m) (drop (4 * n) l)) e ∙ put-back d m (4 * n) (omega arith))
 
   pub fit-length : (t : Thread) (back : Bool) → length (turnedIf back (threadOf t (pairs (railsOf a b sync) step))) ≡ n
   fit-length t back = turned-length (threadOf t (pairs (railsOf a b sync) step)) back ∙ thread-length t 0 (pairs (railsOf a b sync) step) ∙ fit-count
@@ -101,6 +101,44 @@ module _ (a b sync : List Float) (g : Satin) where
   unfolding zigzagPass
   zigzag-is end = rw (alternate-thread (pairs (railsOf a b sync) zigzagUnderlaySpacing))
 
+-- ---- the underlay by its passes over pairs
+
+pub or-left : (x y : Bool) → x ≡ true → (x || y) ≡ true
+or-left true y e = refl
+or-left false y e = clash e refl
+
+pub or-right : (x y : Bool) → y ≡ true → (x || y) ≡ true
+or-right true y e = refl
+or-right false y e = e
+
+only-same : (sewn : Bool) (x y : List P) → (sewn ≡ true → x ≡ y) → onlyIf sewn x ≡ onlyIf sewn y
+only-same true x y e = e refl
+only-same false x y e = refl
+
+only-append : (sewn : Bool) (x y : List P) → onlyIf sewn x ++ onlyIf sewn y ≡ onlyIf sewn (x ++ y)
+only-append true x y = refl
+only-append false x y = refl
+
+module _ (a b sync : List Float) (g : Satin) (qs zs : List Pair) (e : runs g ≡ true → qs ≡ pairs (railsOf a b sync) (g .«run_len»)) (f : bit g 4 ≡ true → zs ≡ pairs (railsOf a b sync) zigzagUnderlaySpacing) where
+  centre-over : overIf (bit g 1) Middle false qs ≡ onlyIf (bit g 1) (centrePass (railsOf a b sync) g false)
+  centre-over = only-same (bit g 1) (threadOf Middle qs) (centrePass (railsOf a b sync) g false) (λ t. ap (threadOf Middle) (e (or-left (bit g 1) (bit g 2) t)) ∙ sym (centre-is a b sync g))
+
+  contour-over : overIf (bit g 2) SideA (afterCentre g) qs ++ overIf (bit g 2) SideB (not (afterCentre g)) qs ≡ onlyIf (bit g 2) (contourPass (railsOf a b sync) g (afterCentre g))
+  contour-over =
+      let end = afterCentre g in
+      let both : List Pair → List P = λ l. turnedIf end (threadOf SideA l) ++ turnedIf (not end) (threadOf SideB l) in
+      only-append (bit g 2) (turnedIf end (threadOf SideA qs)) (turnedIf (not end) (threadOf SideB qs))
+      ∙ only-same (bit g 2) (both qs) (contourPass (railsOf a b sync) g end) (λ t. ap both (e (or-right (bit g 1) (bit g 2) t)) ∙ sym (contour-is a b sync g end))
+
+  zigzag-over : overIf (bit g 4) Alternate (afterCentre g) zs ≡ onlyIf (bit g 4) (zigzagPass (railsOf a b sync) (afterCentre g))
+  zigzag-over =
+      let end = afterCentre g in
+      only-same (bit g 4) (turnedIf end (threadOf Alternate zs)) (zigzagPass (railsOf a b sync) end) (λ t. ap (λ (l : List Pair). turnedIf end (threadOf Alternate l)) (f t) ∙ sym (zigzag-is a b sync g end))
+
+  pub underlay-over : runsOver g qs ++ overIf (bit g 4) Alternate (afterCentre g) zs ≡ underlay (railsOf a b sync) g
+  unfolding runsOver underlay
+  underlay-over = rw (centre-over, contour-over, zigzag-over) (append-assoc (onlyIf (bit g 1) (centrePass (railsOf a b sync) g false)) (onlyIf (bit g 2) (contourPass (railsOf a b sync) g (afterCentre g))) (onlyIf (bit g 4) (zigzagPass (railsOf a b sync) (afterCentre g))))
+
 -- points that are put leave the slice as long as it was
 pub run-size : (d y : List Float) (m : List P) (k : ℕ) → k + 2 * length m ≤ length d → y ≡ put d k (flat m) → length y ≡ length d
 run-size d y m k h e = ap length e ∙ put-length d (flat m) k (omega (arith, flat-length m))
@@ -131,19 +169,11 @@ module _ (d d₁ : List Float) (c k z : List P) (fits : 2 * length (c ++ (k ++ z
 
 -- ---- the count
 
-pub or-left : (x y : Bool) → x ≡ true → (x || y) ≡ true
-or-left true y e = refl
-or-left false y e = clash e refl
-
-pub or-right : (x y : Bool) → y ≡ true → (x || y) ≡ true
-or-right true y e = refl
-or-right false y e = e
-
 only-length : (sewn : Bool) (l : List P) (n : ℕ) → (sewn ≡ true → length l ≡ n) → length (onlyIf sewn l) ≡ cond sewn n 0
 only-length true l n e = e refl
 only-length false l n e = refl
 
-pub underlay-count : {a b sync : List Float} {ends : P} {run zigzag : Pass} {n m : ℕ} (g : Satin) → ((bit g 1 || bit g 2) ≡ true → Fit a b sync (g .«run_len») ends run n) → (bit g 4 ≡ true → Fit a b sync zigzagUnderlaySpacing ends zigzag m) → length (underlay (railsOf a b sync) g) ≡ underlayCount g n m
+pub underlay-count : {a b sync : List Float} {ends : P} {run zigzag : Pass} {n m : ℕ} (g : Satin) → (runs g ≡ true → Fit a b sync (g .«run_len») ends run n) → (bit g 4 ≡ true → Fit a b sync zigzagUnderlaySpacing ends zigzag m) → length (underlay (railsOf a b sync) g) ≡ underlayCount g n m
 unfolding underlay underlayCount
 underlay-count {a} {b} {sync} {n = n} {m = m} g f h =
     let r = railsOf a b sync in

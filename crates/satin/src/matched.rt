@@ -7,8 +7,9 @@ ghost use Rattle.refusal.specs.Sewn.{sewn, output};
 ghost use Rattle.geom.specs.Sewing.{flat};
 ghost use Rattle.satinrules.specs.Pairs.{few, pairs};
 ghost use Rattle.satinrules.specs.Calls.{railsOf, bothPoints, worked};
-ghost use Rattle.pairing.specs.Store.{Sound};
+ghost use Rattle.pairing.specs.Store.{Laid, Sound};
 ghost use Rattle.satin.specs.Passed.{pairsPassed};
+use crate::rails::BOTH_RAILS;
 use crate::rails::ends_of;
 use crate::rails::need;
 use crate::slices::copy;
@@ -16,6 +17,7 @@ use crate::slices::zero;
 use pairing::places::count_places;
 use pairing::places::pass_of;
 use pairing::store::lay_pairs;
+use pairing::store::put_rails;
 use refusal::DONE;
 use refusal::ROOM;
 use refusal::SIZE;
@@ -25,8 +27,9 @@ use refusal::WORK;
 // Of a pass.
 pub const MOST_PAIRS: u64 = 65536;
 
-// The pairs to the front of out, four numbers each; or SIZE, WORK or ROOM and nothing.
-pub fn sewn_pairs(
+// The pairs to the front of out, by the running lengths of both rails.
+fn pairs_along(
+    rails: &[f64],
     a: &[f64],
     b: &[f64],
     sync: &[f64],
@@ -34,10 +37,10 @@ pub fn sewn_pairs(
     work: &mut [f64],
     out: &mut [f64],
 ) -> Sewn
-    requires { ⌜ Sound (now a) (now b) × (few (railsOf (now a) (now b) (now sync)) ≡ false) ⌝ }
+    requires { ⌜ Laid (now a) (now b) (now rails) × (few (railsOf (now a) (now b) (now sync)) ≡ false) ⌝ }
     ensures { λ r. ⌜ (r ≡ sewn (pairsPassed (now (a .entry)) (now (b .entry)) (now (sync .entry)) step (length (now (work .entry))) (length (now (out .entry)))) (length (bothPoints (pairs (railsOf (now (a .entry)) (now (b .entry)) (now (sync .entry))) step)))) × (now (out .exit) ≡ output (pairsPassed (now (a .entry)) (now (b .entry)) (now (sync .entry)) step (length (now (work .entry))) (length (now (out .entry)))) (flat (bothPoints (pairs (railsOf (now (a .entry)) (now (b .entry)) (now (sync .entry))) step))) (now (out .entry))) × (now (work .exit) ≡ worked (pairsPassed (now (a .entry)) (now (b .entry)) (now (sync .entry)) step (length (now (work .entry))) (length (now (out .entry)))) (now (work .entry))) ⌝ }
 {
-    let ends = ends_of(a, b);
+    let ends = ends_of(rails, a, b);
     let pass = pass_of(sync, ends, step);
     if pass.n > MOST_PAIRS {
         return Sewn {
@@ -60,12 +63,28 @@ pub fn sewn_pairs(
             points: 0,
         };
     }
-    lay_pairs(work, a, b, sync, ends, pass);
-    let base = a.len() / 2 + b.len() / 2;
-    copy(out, &work[base..base + 4 * n]);
+    lay_pairs(work, rails, a, b, sync, ends, pass);
+    copy(out, &work[0..4 * n]);
     zero(work);
     Sewn {
         answer: DONE,
         points: (2 * n) as u64,
     }
+}
+
+// The pairs to the front of out, four numbers each; or SIZE, WORK or ROOM and nothing. The running lengths stand in an array of its own, since SIZE hangs on them and leaves the working slice as it was.
+pub fn sewn_pairs(
+    a: &[f64],
+    b: &[f64],
+    sync: &[f64],
+    step: f64,
+    work: &mut [f64],
+    out: &mut [f64],
+) -> Sewn
+    requires { ⌜ Sound (now a) (now b) × (few (railsOf (now a) (now b) (now sync)) ≡ false) ⌝ }
+    ensures { λ r. ⌜ (r ≡ sewn (pairsPassed (now (a .entry)) (now (b .entry)) (now (sync .entry)) step (length (now (work .entry))) (length (now (out .entry)))) (length (bothPoints (pairs (railsOf (now (a .entry)) (now (b .entry)) (now (sync .entry))) step)))) × (now (out .exit) ≡ output (pairsPassed (now (a .entry)) (now (b .entry)) (now (sync .entry)) step (length (now (work .entry))) (length (now (out .entry)))) (flat (bothPoints (pairs (railsOf (now (a .entry)) (now (b .entry)) (now (sync .entry))) step))) (now (out .entry))) × (now (work .exit) ≡ worked (pairsPassed (now (a .entry)) (now (b .entry)) (now (sync .entry)) step (length (now (work .entry))) (length (now (out .entry)))) (now (work .entry))) ⌝ }
+{
+    let mut rails = [0.0f64; BOTH_RAILS];
+    put_rails(&mut rails, a, b);
+    pairs_along(&rails, a, b, sync, step, work, out)
 }

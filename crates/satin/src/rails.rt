@@ -4,14 +4,17 @@ ghost use mathlib.Core.List.{[]};
 ghost use Prim.Native.Nat.{_≤_};
 ghost use Rattle.satinrules.specs.Pairs.{few, endsOf};
 ghost use Rattle.satinrules.specs.Calls.{railsOf, goodSync, goodRails, need};
+ghost use Rattle.pairing.specs.Store.{Laid};
 use geom::P;
 use limits::MOST_SYNCS;
 use limits::good_line;
 use limits::good_numbers;
-use polyline::polyline_length;
 use refusal::DONE;
 use refusal::LAYOUT;
 use refusal::NUMBER;
+
+// The running lengths of two rails of 1,024 corners.
+pub const BOTH_RAILS: usize = 2048;
 
 // The layout of the sync points.
 fn good_sync(sync: &[f64]) -> bool
@@ -59,13 +62,16 @@ pub fn few_corners(a: &[f64], b: &[f64]) -> bool
     b.len() / 2 < 2
 }
 
-// The place where both rails end.
-pub fn ends_of(a: &[f64], b: &[f64]) -> P
+// The place where both rails end, from their running lengths.
+pub fn ends_of(rails: &[f64], a: &[f64], b: &[f64]) -> P
+    requires { ⌜ Laid (now a) (now b) (now rails) ⌝ }
     ensures { λ r. ⌜ r ≡ endsOf (railsOf (now (a .entry)) (now (b .entry)) []) ⌝ }
 {
+    let m = a.len() / 2;
+    let n = b.len() / 2;
     P {
-        x: polyline_length(a),
-        y: polyline_length(b),
+        x: rails[m - 1],
+        y: rails[m + n - 1],
     }
 }
 

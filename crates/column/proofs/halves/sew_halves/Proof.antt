@@ -12,18 +12,18 @@ use Rattle.column.proofs.halves.sew_halves.Tie as tie
 
 returns : tie.Need-returns
 returns c =
-    let a = c .before .before .before .before .before .before .before .before .before .before .args in
+    let a = c .before .before .before .before .before .before .before .before .before .before .before .args in
     rw (not-fitted (column (railsOf (a .a .now) (a .b .now) (a .sync .now)) (a .g)) (length (a .out .now)) (c .before .before .before .count-halves .ensures .0) (c .if1 .taken)) (refl, refl, c .before .before .before .count-halves .ensures .1)
 
 put-halves-requires : tie.Need-put-halves-requires
 put-halves-requires c κs =
-    let a = c .before .before .before .before .before .before .before .before .before .before .before .before .args in
+    let a = c .before .before .before .before .before .before .before .before .before .before .before .before .before .args in
     let m = column (railsOf (a .a .now) (a .b .now) (a .sync .now)) (a .g) in
-    (ready-same (c .before .before .before .before .before .before .before .before .before .before .before .before .pre) (c .before .before .before .before .before .count-halves .ensures .1), c .before .before .before .before .before .count-halves .ensures .2, omega (arith, fits m (length (a .out .now)) (c .before .before .before .before .before .count-halves .ensures .0) (c .before .before .if1 .left), flat-length m))
+    (c .before .before .before .before .before .before .before .before .before .before .before .before .before .pre .0, ready-same (c .before .before .before .before .before .before .before .before .before .before .before .before .before .pre .1) (c .before .before .before .before .before .count-halves .ensures .1), c .before .before .before .before .before .count-halves .ensures .2, omega (arith, fits m (length (a .out .now)) (c .before .before .before .before .before .count-halves .ensures .0) (c .before .before .if1 .left), flat-length m))
 
 returns-2 : tie.Need-returns-2
 returns-2 c =
-    let a = c .before .before .before .before .before .before .before .before .before .before .before .before .before .before .before .before .before .args in
+    let a = c .before .before .before .before .before .before .before .before .before .before .before .before .before .before .before .before .before .before .args in
     let m = column (railsOf (a .a .now) (a .b .now) (a .sync .now)) (a .g) in
     rw (is-fitted m (length (a .out .now)) (c .before .before .before .before .before .before .before .before .before .before .count-halves .ensures .0) (c .before .before .before .before .before .before .before .if1 .left)) (rw (counted m (length (a .out .now)) (c .before .before .before .before .before .before .before .before .before .before .count-halves .ensures .0) (c .before .before .before .before .before .before .before .if1 .left)), c .before .before .before .before .put-halves .ensures .0, c .before .before .before .before .put-halves .ensures .1 ∙ c .before .before .before .before .before .before .before .before .before .before .count-halves .ensures .1)
 

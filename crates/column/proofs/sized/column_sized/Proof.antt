@@ -6,7 +6,8 @@ use Rattle.numbers.specs.Num.{literal}
 use Rattle.geom.specs.Outline.{points}
 use Rattle.satinrules.specs.Settings.{zigzagUnderlaySpacing}
 use Rattle.satinrules.specs.Column.{onlyIf, bit, spacingOf}
-use Rattle.column.specs.Sized.{runs, sizedAt}
+use Rattle.satin.specs.Underlay.{runs}
+use Rattle.column.specs.Sized.{sizedAt}
 use Rattle.column.specs.SizedLaws.{sized-three}
 use borrow.Author.Needs.{needs}
 use Rattle.column.proofs.sized.column_sized.Statement.{statement}

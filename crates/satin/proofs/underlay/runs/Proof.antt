@@ -1,7 +1,7 @@
 use Rattle.satin.specs.UnderlayLaws.{first-on, first-off}
 use borrow.Author.Needs.{needs}
-use Rattle.column.proofs.sized.runs.Statement.{statement}
-use Rattle.column.proofs.sized.runs.Tie as tie
+use Rattle.satin.proofs.underlay.runs.Statement.{statement}
+use Rattle.satin.proofs.underlay.runs.Tie as tie
 
 returns : tie.Need-returns
 returns c = rw (first-on (c .before .before .args .g) (c .if1 .taken))
