@@ -7,8 +7,10 @@ ghost use Rattle.polyline.specs.Line.{pieceSteps};
 use geom::P;
 use geom::steps::steps;
 use leaves::of_bits;
+use leaves::of_u64;
 use leaves::root;
 use leaves::to_bits;
+use leaves::to_u64;
 
 // A number near the root of d: half of d's exponent, and two steps of Newton's. Nothing is promised of it, as it is tried.
 fn near_root(d: f64) -> f64 {
@@ -50,9 +52,11 @@ fn by_squares(d: f64, len: f64) -> u64
     let lo = near * 0.99999;
     let hi = near * 1.00001;
     if between(d, lo, hi, len) {
-        let n = steps(lo, len);
-        if n == steps(hi, len) {
-            return n;
+        let n = to_u64(hi / len);
+        if n < 4503599627370496 {
+            if of_u64(n) < lo / len {
+                return n + 1;
+            }
         }
     }
     0
