@@ -4,6 +4,7 @@ ghost use mathlib.Core.Bool.{true};
 ghost use Prim.Native.Nat.{_^_, _<_};
 ghost use lib.IntN.{natAbs, _-ℤ_};
 ghost use lib.Signed.{ltZ};
+ghost use Rattle.numbers.specs.Order.{smaller, larger};
 ghost use Rattle.seqs.specs.Slices.{capped};
 ghost use Rattle.geom.specs.Outline.{points};
 ghost use Rattle.limits.specs.Limits.{mostCells};
@@ -19,6 +20,26 @@ use leaves::to_i64;
 use patterns_rules::Bounds;
 use patterns_rules::Grid;
 
+// The smaller of two: most corners move no side, so that is asked first.
+fn lower(side: f64, x: f64) -> f64
+    ensures { λ r. ⌜ r ≡ smaller side x ⌝ }
+{
+    if side < x {
+        return side;
+    }
+    smaller(side, x)
+}
+
+// The larger of two, likewise.
+fn upper(side: f64, x: f64) -> f64
+    ensures { λ r. ⌜ r ≡ larger side x ⌝ }
+{
+    if x < side {
+        return side;
+    }
+    larger(side, x)
+}
+
 // With no corners, plus infinity below and minus infinity above.
 pub fn bounds(corners: &[f64]) -> Bounds
     ensures { λ r. ⌜ r ≡ boundsOf (points (now (corners .entry))) ⌝ }
@@ -31,10 +52,10 @@ pub fn bounds(corners: &[f64]) -> Bounds
     while i + 1 < corners.len() {
         let x = corners[i];
         let y = corners[i + 1];
-        left = smaller(left, x);
-        top = smaller(top, y);
-        right = larger(right, x);
-        bottom = larger(bottom, y);
+        left = lower(left, x);
+        top = lower(top, y);
+        right = upper(right, x);
+        bottom = upper(bottom, y);
         i += 2;
     }
     Bounds {

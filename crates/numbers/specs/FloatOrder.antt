@@ -117,6 +117,14 @@ finite-number nan h = h
 finite-number (inf s) h = tt
 finite-number (fin s m e) h = tt
 
+-- what lies between finite numbers is finite
+pub between-finite : (lo x hi : Float) → T (finite lo) → T (finite hi) → T (le lo x) → T (le x hi) → T (finite x)
+unfolding le lt eq finite
+between-finite (fin s m e) nan hi f g h k = absurd h
+between-finite (fin s m e) (inf true) hi f g h k = absurd h
+between-finite (fin s m e) (inf false) (fin s′ m′ e′) f g h k = absurd k
+between-finite (fin s m e) (fin s′ m′ e′) hi f g h k = tt
+
 pub lt-le : (x y : Float) → T (lt x y) → T (le x y)
 unfolding le
 lt-le x y h = go (lt x y) h

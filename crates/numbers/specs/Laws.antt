@@ -20,6 +20,8 @@ pub use Rattle.numbers.specs.FloatOrder.{le-or-lt, le-lt-clash}
 pub use Rattle.numbers.specs.FloatOrder.{lt-irrefl, lt-le, eq-le, eq-sym}
 -- what stands in x ≤ y is no NaN, and what is finite is none
 pub use Rattle.numbers.specs.FloatOrder.{le-left, le-right, finite-number}
+-- what lies between finite numbers is finite
+pub use Rattle.numbers.specs.FloatOrder.{between-finite}
 -- x ≤ y makes -y ≤ -x
 pub use Rattle.numbers.specs.FloatOrder.{neg-le}
 -- ---- the total order, -0 before +0
@@ -48,6 +50,8 @@ pub use Rattle.numbers.specs.Roots.{root-up, root-finite, root-above}
 -- a zero is its own root; below zero there is none; above it is the correctly rounded one (`IsRoot`)
 pub use Rattle.numbers.specs.Roots.{root-of-zero}
 pub use Rattle.numbers.specs.Ieee754.{root-below, root-is}
+-- 0 < x, 0 < y: x < y ⊗ y makes root x ≤ y, and y ⊗ y < x makes y ≤ root x
+pub use Rattle.numbers.specs.RootBounds.{root-under, root-over}
 -- ---- floor and ceiling
 -- x ≤ y makes floor x ≤ floor y and ceil x ≤ ceil y
 pub use Rattle.numbers.specs.FloorLaws.{floor-mono, ceil-mono}

@@ -1,4 +1,4 @@
--- Bounds of size through the root: it halves the digits.
+-- Bounds through the root: it halves the digits, and a square that is above its operand has the greater root.
 use mathlib.Core.Path.{_≡_, sym, ap, _∙_, subst}
 use mathlib.Core.Bool.{Bool, true, false}
 use Prim.Native.Nat.{ℕ, zero, suc, _+_, _*_, _^_, _≤_, _<_, zero-le}
@@ -8,14 +8,18 @@ use native.Mathlib.Omega.{arith}
 use lib.Dec.{T, lit<}
 use lib.Pow.{pow-pos, pow-add}
 use lib.IntN.{ℤ}
-use lib.Ieee.{Float, nan, inf, fin, binary64, up, down, round, fits, le}
+use lib.Ieee.{Float, nan, inf, fin, binary64, up, down, round, fits, lt, le}
 use lib.Ieee.Fits.{down-pos, round-fits}
 use lib.Ieee.Exact.{HasValue}
-use Rattle.numbers.specs.Num.{zero64}
+use lib.Ieee.Order.{le-of-values}
+use Rattle.numbers.specs.Num.{_⊗_, zero64}
 use Rattle.numbers.specs.Root.{root}
 use Rattle.numbers.specs.Order.{negative, finite}
 use Rattle.numbers.specs.Value.{unitsOf, Within, AtLeast, Nearer}
-use Rattle.numbers.specs.Units.{units-exact}
+use Rattle.numbers.specs.Units.{units-exact, own-units}
+use Rattle.numbers.specs.Fraction.{lt→cross}
+use Rattle.numbers.specs.FloatOrder as order
+use Rattle.numbers.specs.Rounded.{rounded-le, own-rounded, mul-rounded}
 use Rattle.numbers.specs.Roots.{above-is, above-negative, nothing-below}
 use Rattle.numbers.specs.Bounds.{power, least}
 
@@ -119,3 +123,93 @@ atleast-root j (fin false (suc m) e) l f h =
       where
         down-to : (a d u b l : ℕ) → 0 < l → a * l ≡ u * d → l ≤ u * b → d ≤ a * b
         down-to a d u b l L e h = le-of-mul-le-mul-right {k = l} (omega (arith, mul-le-mul-right d h, ap (λ (k : ℕ). k * b) e)) L
+
+-- ---- a number whose square, rounded, is strictly above x or below it: rounding never turns the order, so its exact square is not on the other side
+-- x is a / e, or u units of l to the one, and y is b / d, or v units
+module _ (a e u b d v l : ℕ) (L : 0 < l) (p : a * l ≡ u * e) (q : b * l ≡ v * d) where
+  x-square : b * b * e * (l * l) ≡ v * v * (d * d * e)
+  x-square = omega (arith, ap (λ (k : ℕ). k * (b * l * e)) q, ap (λ (k : ℕ). k * (v * d * e)) q)
+
+  x-value : a * (d * d) * (l * l) ≡ u * l * (d * d * e)
+  x-value = omega (arith, ap (λ (k : ℕ). k * (l * (d * d))) p)
+
+  square-le : v * v ≤ u * l → b * b * e ≤ a * (d * d)
+  square-le h = le-of-mul-le-mul-right {k = l * l} (omega (arith, x-square, x-value, mul-le-mul-right (d * d * e) h)) (mul-pos L L)
+
+  le-square : u * l ≤ v * v → a * (d * d) ≤ b * b * e
+  le-square h = le-of-mul-le-mul-right {k = l * l} (omega (arith, x-square, x-value, mul-le-mul-right (d * d * e) h)) (mul-pos L L)
+
+module _ (m n : ℕ) (e d : ℤ) (f : T (fits binary64 (fin false (suc m) e))) (g : T (fits binary64 (fin false n d))) where
+  abbrev x : Float
+  x = fin false (suc m) e
+
+  abbrev y : Float
+  y = fin false n d
+
+  above-square : unitsOf y * unitsOf y ≤ unitsOf x * 2 ^ 1074 → T (le (y ⊗ y) x)
+  unfolding finite
+  above-square h =
+      rounded-le (mul-rounded y y tt tt) (own-rounded x tt f) (mul-pos (down-pos d) (down-pos d)) (down-pos e)
+      (omega (arith, square-le (suc m * up e) (down e) (unitsOf x) (n * up d) (down d) (unitsOf y) (2 ^ 1074) (pow-pos 1074) (units-exact false (suc m) e f) (units-exact false n d g) h))
+
+  below-square : unitsOf x * 2 ^ 1074 ≤ unitsOf y * unitsOf y → T (le x (y ⊗ y))
+  unfolding finite
+  below-square h =
+      rounded-le (own-rounded x tt f) (mul-rounded y y tt tt) (down-pos e) (mul-pos (down-pos d) (down-pos d))
+      (omega (arith, le-square (suc m * up e) (down e) (unitsOf x) (n * up d) (down d) (unitsOf y) (2 ^ 1074) (pow-pos 1074) (units-exact false (suc m) e f) (units-exact false n d g) h))
+
+  root-value : HasValue (root x) false (unitsOf (root x)) (2 ^ 1074)
+  root-value = subst (λ (s : Bool). HasValue (root x) s (unitsOf (root x)) (2 ^ 1074)) (above-negative m e f) (own-units (root x) (above-is m e f .fit) (above-is m e f .fine))
+
+  y-value : HasValue y false (unitsOf y) (2 ^ 1074)
+  unfolding negative finite
+  y-value = own-units y g tt
+
+  fine-under : T (lt x (y ⊗ y)) → T (le (root x) y)
+  unfolding finite
+  fine-under h = go (decLe (unitsOf x * 2 ^ 1074) (unitsOf y * unitsOf y))
+    where
+      go : Dec (unitsOf x * 2 ^ 1074 ≤ unitsOf y * unitsOf y) → T (le (root x) y)
+      go (yes l) =
+          le-of-values (root x) y (unitsOf (root x)) (2 ^ 1074) (unitsOf y) (2 ^ 1074) (pow-pos 1074) (pow-pos 1074) root-value y-value
+          (mul-le-mul-right (2 ^ 1074) (nearer-top (unitsOf x * 2 ^ 1074) (unitsOf (root x)) (unitsOf y) l (above-is m e f .nearest y g tt)))
+      go (no k) = absurd (order.le-lt-clash (y ⊗ y) x (above-square (le-of-lt (lt-of-not-le k))) h)
+
+  fine-over : T (lt (y ⊗ y) x) → T (le y (root x))
+  unfolding finite
+  fine-over h = go (decLe (unitsOf y * unitsOf y) (unitsOf x * 2 ^ 1074))
+    where
+      go : Dec (unitsOf y * unitsOf y ≤ unitsOf x * 2 ^ 1074) → T (le y (root x))
+      go (yes l) =
+          le-of-values y (root x) (unitsOf y) (2 ^ 1074) (unitsOf (root x)) (2 ^ 1074) (pow-pos 1074) (pow-pos 1074) y-value root-value
+          (mul-le-mul-right (2 ^ 1074) (nearer-bottom (unitsOf x * 2 ^ 1074) (unitsOf (root x)) (unitsOf y) l (above-is m e f .nearest y g tt)))
+      go (no k) = absurd (order.le-lt-clash x (y ⊗ y) (below-square (le-of-lt (lt-of-not-le k))) h)
+
+not-over : (s : Bool) (e : ℤ) → T (lt zero64 (fin s zero e)) → ⊥
+unfolding finite
+not-over true e h = omega (arith, lt→cross zero64 (fin true zero e) tt tt h)
+not-over false e h = omega (arith, lt→cross zero64 (fin false zero e) tt tt h)
+
+pub root-under : (x y : Float) → T (fits binary64 x) → T (fits binary64 y) → T (finite y) → T (lt zero64 x) → T (lt zero64 y) → T (lt x (y ⊗ y)) → T (le (root x) y)
+root-under x nan f g k p q h = unfold finite in absurd k
+root-under x (inf s) f g k p q h = unfold finite in absurd k
+root-under x (fin true n d) f g k p q h = unfold lt in absurd q
+root-under nan (fin false n d) f g k p q h = unfold lt in absurd p
+root-under (inf true) (fin false n d) f g k p q h = unfold lt in absurd p
+root-under (inf false) (fin false n d) f g k p q h =
+    let w = fin false n d ⊗ fin false n d in
+    absurd (order.le-lt-clash w (inf false) (order.le-inf w (order.le-right (inf false) w (order.lt-le (inf false) w h))) h)
+root-under (fin s zero e) (fin false n d) f g k p q h = absurd (not-over s e p)
+root-under (fin true (suc m) e) (fin false n d) f g k p q h = unfold lt in absurd p
+root-under (fin false (suc m) e) (fin false n d) f g k p q h = fine-under m n e d f g h
+
+pub root-over : (x y : Float) → T (fits binary64 x) → T (fits binary64 y) → T (finite y) → T (lt zero64 x) → T (lt zero64 y) → T (lt (y ⊗ y) x) → T (le y (root x))
+root-over x nan f g k p q h = unfold finite in absurd k
+root-over x (inf s) f g k p q h = unfold finite in absurd k
+root-over x (fin true n d) f g k p q h = unfold lt in absurd q
+root-over nan (fin false n d) f g k p q h = unfold lt in absurd p
+root-over (inf true) (fin false n d) f g k p q h = unfold lt in absurd p
+root-over (inf false) (fin false n d) f g k p q h = unfold root finite in order.le-inf (fin false n d) (order.finite-number (fin false n d) tt)
+root-over (fin s zero e) (fin false n d) f g k p q h = absurd (not-over s e p)
+root-over (fin true (suc m) e) (fin false n d) f g k p q h = unfold lt in absurd p
+root-over (fin false (suc m) e) (fin false n d) f g k p q h = fine-over m n e d f g h

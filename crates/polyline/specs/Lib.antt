@@ -1,3 +1,5 @@
--- What the contracts of `polyline` cite (Line), and what is proved of it.
+-- What the contracts of `polyline` cite (Line, Cuts), and what is proved of it.
 pub mod Line
 pub mod LineLaws
+pub mod Cuts
+pub mod CutsLaws

@@ -6,13 +6,16 @@ ghost use Rattle.refusal.specs.Sewn.{sewn, output};
 ghost use Rattle.seqs.specs.Slices.{put, capped};
 ghost use Rattle.geom.specs.Outline.{points};
 ghost use Rattle.geom.specs.Sewing.{flat, fitted};
-ghost use Rattle.polyline.specs.Line.{polylineLength, pieceSteps, stepsFrom, pieces, resampleKeepCorners};
+ghost use Rattle.polyline.specs.Line.{polylineLength, stepsFrom, pieces, resampleKeepCorners};
+
+pub mod cuts;
+
+pub use cuts::piece_steps;
 use geom::P;
 use geom::sewing::add_within;
 use geom::sewing::corner;
 use geom::sewing::put_point;
 use geom::steps::along;
-use geom::steps::steps;
 use refusal::DONE;
 use refusal::ROOM;
 use refusal::Sewn;
@@ -33,17 +36,6 @@ pub fn polyline_length(line: &[f64]) -> f64
         i += 2;
     }
     sum
-}
-
-// How many stitches lead from a to b: none where the piece is skipped.
-pub fn piece_steps(a: P, b: P, len: f64) -> u64
-    ensures { λ r. ⌜ r ≡ pieceSteps a b len ⌝ }
-{
-    let d = a.dist(b);
-    if d < 1e-9 {
-        return 0;
-    }
-    steps(d, len)
 }
 
 // How many points the resampled line has, or room + 1 where they pass the room.

@@ -22,14 +22,6 @@ never nan h = clash h refl
 never (inf s) h = clash h refl
 never (fin s m e) h = clash h refl
 
--- what lies between finite numbers is finite
-between-finite : (lo x hi : Float) → T (finite lo) → T (finite hi) → T (le lo x) → T (le x hi) → T (finite x)
-unfolding le lt eq finite
-between-finite (fin s m e) nan hi f g h k = absurd h
-between-finite (fin s m e) (inf true) hi f g h k = absurd h
-between-finite (fin s m e) (inf false) (fin s′ m′ e′) f g h k = absurd k
-between-finite (fin s m e) (fin s′ m′ e′) hi f g h k = tt
-
 -- finite, len above zero and d not below it
 record Measure (len d : Float) : Type 0 where
   above : T (lt zero64 len)
@@ -66,13 +58,13 @@ limits-tried len d a b md ma mb fd fa fb u v w = record {
   none = λ e f h.
       let k = holds h in
       elim (laws.le-or-lt zero64 e tt (laws.le-left e d k)) [
-        | inl z ↦ let g = between-finite zero64 e d tt (measure len d md .fine-d) z k in omega (arith, cuts-mono len e d (record { above = measure len d md .above; fine = measure len d md .fine; up = z; fine-d = g }) (measure len d md .fine-d) f fd k)
+        | inl z ↦ let g = laws.between-finite zero64 e d tt (measure len d md .fine-d) z k in omega (arith, cuts-mono len e d (record { above = measure len d md .above; fine = measure len d md .fine; up = z; fine-d = g }) (measure len d md .fine-d) f fd k)
         | inr z ↦ cuts-below len e z
       ];
   once = λ e f h k.
       let p = measure len a ma in
       let q = measure len b mb in
       let z = laws.le-trans zero64 a e (p .up) (holds h) in
-      let g = between-finite a e b (p .fine-d) (q .fine-d) (holds h) (holds k) in
+      let g = laws.between-finite a e b (p .fine-d) (q .fine-d) (holds h) (holds k) in
       omega (arith, cuts-mono len a e p g fa f (holds h), cuts-mono len e b (record { above = p .above; fine = p .fine; up = z; fine-d = g }) (q .fine-d) f fb (holds k), v, w);
 }

@@ -40,7 +40,7 @@ unfolding ofBits
 loop-holds c = (search needs, refl)
 
 loop-again : tie.Need-loop-again Inv-loop μ-loop
-loop-again c = let l = c .before .before .before .before .before .before .before .loop in (search needs, rw (c .before .before .before .smaller .ensures, c .before .before .smaller2 .ensures, c .before .larger .ensures, c .larger2 .ensures) (sym (widen-next (c .before .before .before .before .before .before .before .before .before .args .corners .now) _ (l .i) (search needs)) ∙ l .inv .1))
+loop-again c = let l = c .before .before .before .before .before .before .before .loop in (search needs, rw (c .before .before .before .lower .ensures, c .before .before .lower2 .ensures, c .before .upper .ensures, c .upper2 .ensures) (sym (widen-next (c .before .before .before .before .before .before .before .before .before .args .corners .now) _ (l .i) (search needs)) ∙ l .inv .1))
 
 returns : tie.Need-returns Inv-loop μ-loop
 returns c = let l = c .before .loop in sym (widen-end (c .before .before .before .args .corners .now) _ (l .i) (search needs)) ∙ l .inv .1

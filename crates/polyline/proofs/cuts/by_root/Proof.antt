@@ -1,0 +1,16 @@
+use Rattle.polyline.specs.Cuts.{squareSteps}
+use Rattle.polyline.specs.LineLaws.{shortest-bits}
+use borrow.Author.Needs.{needs}
+use Rattle.polyline.proofs.cuts.by_root.Statement.{statement}
+use Rattle.polyline.proofs.cuts.by_root.Tie as tie
+
+returns : tie.Need-returns
+unfolding squareSteps
+returns c = rw (shortest-bits, ← c .before .root .ensures, c .if1 .taken)
+
+returns-2 : tie.Need-returns-2
+unfolding squareSteps
+returns-2 c = rw (shortest-bits, ← c .before .before .root .ensures, c .before .if1 .left) (c .steps .ensures)
+
+pub by-root-spec : {M : Type 1} → statement M
+by-root-spec = tie.close (tie.spec (λ c κs. search needs) returns (λ c κs. search needs) returns-2)
