@@ -1,50 +1,78 @@
--- Any two outcomes that a call's contract allows are equal: the answer, the counts and every slice. One theorem for each call of docs/CALLS.md,
--- over the contract's own words. Assumes nothing.
+-- Any two outcomes that a call's contract allows are equal: one theorem for each call of docs/CALLS.md. Assumes nothing.
+-- The contracts are the source's own: of a function f, `f.ended` is its signature and `f.Reads.Learnt` what rattle makes of its `ensures` and tells every caller. No theorem says their words again, so a contract that leaves a choice open is refused here.
 use Prim.Native.Nat.{ℕ}
 use mathlib.Core.Path.{_≡_, refl, sym, ap, _∙_}
-use mathlib.Core.Bool.{Bool}
 use mathlib.Core.List.{List, _++_}
 use native.Mathlib.Omega.{arith}
-use lib.IntN.{ℤ}
 use lib.ListN.{length, drop}
 use lib.Ieee.{Float}
+use contract.Lifetimes.{Lfts}
+use denote.Triple.Entry.{Args, Res}
+use denote.Triple.Clauses.{Ended, Lasts, AtExit, atExit}
 use Rattle.refusal.specs.Refusal.{done}
 use Rattle.refusal.specs.AnswerLaws.{done-one, done-refused, refused-done, refused-one}
-use Rattle.refusal.specs.declared.Sewn.{Sewn}
 use Rattle.leaves.specs.declared.checked.Leaf.{Leaf}
 use Rattle.leaves.specs.declared.checked.Leaf.the-variants as leaf
 use Rattle.leaves.specs.declared.checked.Place.{Place}
 use Rattle.leaves.specs.declared.checked.Place.the-variants as place
-use Rattle.leaves.specs.Answer.{said, saidPlace, rootAnswer, floorAnswer, ceilAnswer, smallerAnswer, largerAnswer, magnitudeAnswer, orderAnswer}
-use Rattle.geom.specs.declared.point.P.{P}
-use Rattle.outlines.specs.declared.rule.FillRule.{FillRule}
-use Rattle.geometry.specs.declared.checked.Spot.{Spot}
-use Rattle.geometry.specs.declared.checked.Wound.{Wound}
-use Rattle.geometry.specs.declared.checked.Truth.{Truth}
-use Rattle.geometry.specs.Answers.{saidSpot, saidWound, saidTruth, dotAnswer, lenAnswer, distAnswer, normAnswer, perpAnswer, rotateAnswer, lerpAnswer, crossAnswer, insideAnswer, windingAnswer, pointInsideAnswer, segmentInsideAnswer}
+use Rattle.leaves.specs.Answer.{said, saidPlace}
 use Rattle.geometry.specs.AnswersLaws.{spot-one, wound-one, truth-one}
-use Rattle.geometry.specs.LineAnswers.{polylineLengthAnswer, resampleSewn, resampleOutput}
-use Rattle.stroke.specs.RunningAnswers.{runningSewn, runningOutput}
-use Rattle.rules.specs.declared.Settings.{Settings}
-use Rattle.tatami.specs.declared.Filled.{Filled}
-use Rattle.tatami.specs.declared.Listed.{Listed}
-use Rattle.tatami.specs.Left.{Left, left, tatamiLeft, LeftList, leftList, rowListLeft}
-use Rattle.fillroom.specs.declared.Room.{Room}
-use Rattle.fillroom.specs.Room.{roomOf}
-use Rattle.satinrules.specs.declared.Satin.{Satin}
-use Rattle.satinrules.specs.declared.Made.{Made}
-use Rattle.satinrules.specs.Settings.{saidMade, madeAnswer}
 use Rattle.satinrules.specs.SettingsLaws.{said-one}
-use Rattle.satinrules.specs.Calls.{pairsSewn, pairsOutput, pairsWork, splitSewn, splitOutput, sStitchSewn, sStitchOutput, columnSewn, columnOutput, columnWork}
-use Rattle.patterns_rules.specs.declared.Lines.{Lines}
-use Rattle.patterns_rules.specs.Answers.{boundsAnswer, clipSaid, clipPoints, clipEnds, crossSaid, crossPoints, crossEnds}
-use Rattle.patterns.specs.declared.Box.{Box}
-use Rattle.patterns.specs.Said.{saidBox}
 use Rattle.patterns.specs.SaidLaws.{box-one}
+use Rattle.tatami.specs.declared.Filled.{Filled}
+use Rattle.tatami.specs.Left.{Left, left}
 use Rattle.jobs.specs.declared.job.Parsed.{Parsed}
-use Rattle.jobs.specs.Job.{parsed, corners as Job·corners, ends as Job·ends, left as Job·left}
-use Rattle.desk.specs.Desk.{jobLeft}
+use Rattle.jobs.specs.Job.{corners as Job·corners, ends as Job·ends, left as Job·left}
 use Rattle.desk.specs.Listing.{printed}
+use Rattle.leaves.proofs.checked.root
+use Rattle.leaves.proofs.checked.floor
+use Rattle.leaves.proofs.checked.ceil
+use Rattle.leaves.proofs.checked.magnitude
+use Rattle.leaves.proofs.checked.smaller
+use Rattle.leaves.proofs.checked.larger
+use Rattle.leaves.proofs.checked.order
+use Rattle.geometry.proofs.checked.dot
+use Rattle.geometry.proofs.checked.len
+use Rattle.geometry.proofs.checked.dist
+use Rattle.geometry.proofs.checked.norm
+use Rattle.geometry.proofs.checked.perp
+use Rattle.geometry.proofs.checked.rotate
+use Rattle.geometry.proofs.checked.lerp
+use Rattle.geometry.proofs.checked.cross
+use Rattle.geometry.proofs.checked.inside
+use Rattle.geometry.proofs.checked.winding
+use Rattle.geometry.proofs.checked.point_inside
+use Rattle.geometry.proofs.checked.segment_inside
+use Rattle.geometry.proofs.checked_line.polyline_length
+use Rattle.geometry.proofs.checked_line.resample_keep_corners
+use Rattle.stroke.proofs.running
+use Rattle.satinrules.proofs.Satin.new as made
+use Rattle.satin.proofs.pairs
+use Rattle.satin.proofs.split_long
+use Rattle.satin.proofs.s_stitch
+use Rattle.column.proofs.column
+use Rattle.patterns.proofs.bounds
+use Rattle.patterns.proofs.clip_inside
+use Rattle.patterns.proofs.cross_stitch
+use Rattle.tatami.proofs.tatami
+use Rattle.tatami.proofs.row_list
+use Rattle.fillroom.proofs.fill_room
+use Rattle.jobs.proofs.job.parse
+use Rattle.desk.proofs.fill_job
+
+-- ---- one outcome
+
+-- what a call leaves: its result, and the last value of each slice that it may write (of any other parameter `Lasts` has a unit)
+abbrev pub Outcome : (call : Ended) (κs : Lfts (call .signature .lifetimes)) → Args (call .signature) κs → Type 0
+Outcome call κs a = Res (call .signature) κs × Lasts call κs a
+
+-- what a contract can say: of the lifetimes, the arguments, the result and the parameters at exit
+abbrev pub Says : Ended → Type 1
+Says call = (κs : Lfts (call .signature .lifetimes)) → Args (call .signature) κs → Res (call .signature) κs → AtExit call κs → Type 0
+
+-- whatever the arguments, any two outcomes that the contract allows are equal
+abbrev pub One : (call : Ended) → Says call → Type 0
+One call says = (κs : Lfts (call .signature .lifetimes)) (a : Args (call .signature) κs) (x y : Outcome call κs a) → says κs a (x .0) (atExit call κs a (x .1)) → says κs a (y .0) (atExit call κs a (y .1)) → x ≡ y
 
 -- ---- an answer has one meaning
 
@@ -75,138 +103,139 @@ place-one (place.Refused m) place.Same e = absurd (refused-done e)
 place-one (place.Refused m) place.After e = absurd (refused-done e)
 place-one (place.Refused m) (place.Refused n) e = ap place.Refused (refused-one ℕ e)
 
--- ---- outcomes of one or more parts, each said by an equation
+-- ---- parts of an outcome, each said by an equation
+
+abbrev both : {A B : Type 0} {x y : A × B} → x .0 ≡ y .0 → x .1 ≡ y .1 → x ≡ y
+both p q = λ i. (p i, q i)
 
 abbrev one : {A : Type 0} {x a a′ : A} → a ≡ x → a′ ≡ x → a ≡ a′
 one p q = p ∙ sym q
 
-abbrev two : {A B : Type 0} {x a a′ : A} {y b b′ : B} → (a ≡ x) × (b ≡ y) → (a′ ≡ x) × (b′ ≡ y) → (a ≡ a′) × (b ≡ b′)
-two p q = (one (p .0) (q .0), one (p .1) (q .1))
-
-abbrev three : {A B C : Type 0} {x a a′ : A} {y b b′ : B} {z c c′ : C} → (a ≡ x) × (b ≡ y) × (c ≡ z) → (a′ ≡ x) × (b′ ≡ y) × (c′ ≡ z) → (a ≡ a′) × (b ≡ b′) × (c ≡ c′)
-three p q = (one (p .0) (q .0), one (p .1) (q .1), one (p .2) (q .2))
-
 -- ---- the numbers
 
-pub root-outcome : (x : Float) (r s : Leaf) → said r ≡ rootAnswer x → said s ≡ rootAnswer x → r ≡ s
-root-outcome x r s h k = leaf-one r s (one h k)
+pub root-outcome : One root.ended root.Reads.Learnt
+root-outcome κs a x y h k = both (leaf-one _ _ (one h k)) refl
 
-pub floor-outcome : (x : Float) (r s : Leaf) → said r ≡ floorAnswer x → said s ≡ floorAnswer x → r ≡ s
-floor-outcome x r s h k = leaf-one r s (one h k)
+pub floor-outcome : One floor.ended floor.Reads.Learnt
+floor-outcome κs a x y h k = both (leaf-one _ _ (one h k)) refl
 
-pub ceil-outcome : (x : Float) (r s : Leaf) → said r ≡ ceilAnswer x → said s ≡ ceilAnswer x → r ≡ s
-ceil-outcome x r s h k = leaf-one r s (one h k)
+pub ceil-outcome : One ceil.ended ceil.Reads.Learnt
+ceil-outcome κs a x y h k = both (leaf-one _ _ (one h k)) refl
 
-pub magnitude-outcome : (x : Float) (r s : Leaf) → said r ≡ magnitudeAnswer x → said s ≡ magnitudeAnswer x → r ≡ s
-magnitude-outcome x r s h k = leaf-one r s (one h k)
+pub magnitude-outcome : One magnitude.ended magnitude.Reads.Learnt
+magnitude-outcome κs a x y h k = both (leaf-one _ _ (one h k)) refl
 
-pub smaller-outcome : (a : Float) (b : Float) (r s : Leaf) → said r ≡ smallerAnswer a b → said s ≡ smallerAnswer a b → r ≡ s
-smaller-outcome a b r s h k = leaf-one r s (one h k)
+pub smaller-outcome : One smaller.ended smaller.Reads.Learnt
+smaller-outcome κs a x y h k = both (leaf-one _ _ (one h k)) refl
 
-pub larger-outcome : (a : Float) (b : Float) (r s : Leaf) → said r ≡ largerAnswer a b → said s ≡ largerAnswer a b → r ≡ s
-larger-outcome a b r s h k = leaf-one r s (one h k)
+pub larger-outcome : One larger.ended larger.Reads.Learnt
+larger-outcome κs a x y h k = both (leaf-one _ _ (one h k)) refl
 
-pub order-outcome : (a : Float) (b : Float) (r s : Place) → saidPlace r ≡ orderAnswer a b → saidPlace s ≡ orderAnswer a b → r ≡ s
-order-outcome a b r s h k = place-one r s (one h k)
+pub order-outcome : One order.ended order.Reads.Learnt
+order-outcome κs a x y h k = both (place-one _ _ (one h k)) refl
 
 -- ---- the geometry
 
-pub dot-outcome : (a : P) (o : P) (r s : Leaf) → said r ≡ dotAnswer a o → said s ≡ dotAnswer a o → r ≡ s
-dot-outcome a o r s h k = leaf-one r s (one h k)
+pub dot-outcome : One dot.ended dot.Reads.Learnt
+dot-outcome κs a x y h k = both (leaf-one _ _ (one h k)) refl
 
-pub len-outcome : (a : P) (r s : Leaf) → said r ≡ lenAnswer a → said s ≡ lenAnswer a → r ≡ s
-len-outcome a r s h k = leaf-one r s (one h k)
+pub len-outcome : One len.ended len.Reads.Learnt
+len-outcome κs a x y h k = both (leaf-one _ _ (one h k)) refl
 
-pub dist-outcome : (a : P) (o : P) (r s : Leaf) → said r ≡ distAnswer a o → said s ≡ distAnswer a o → r ≡ s
-dist-outcome a o r s h k = leaf-one r s (one h k)
+pub dist-outcome : One dist.ended dist.Reads.Learnt
+dist-outcome κs a x y h k = both (leaf-one _ _ (one h k)) refl
 
-pub norm-outcome : (a : P) (r s : Spot) → saidSpot r ≡ normAnswer a → saidSpot s ≡ normAnswer a → r ≡ s
-norm-outcome a r s h k = spot-one r s (one h k)
+pub norm-outcome : One norm.ended norm.Reads.Learnt
+norm-outcome κs a x y h k = both (spot-one _ _ (one h k)) refl
 
-pub perp-outcome : (a : P) (r s : Spot) → saidSpot r ≡ perpAnswer a → saidSpot s ≡ perpAnswer a → r ≡ s
-perp-outcome a r s h k = spot-one r s (one h k)
+pub perp-outcome : One perp.ended perp.Reads.Learnt
+perp-outcome κs a x y h k = both (spot-one _ _ (one h k)) refl
 
-pub rotate-outcome : (a : P) (cos : Float) (sin : Float) (r s : Spot) → saidSpot r ≡ rotateAnswer a cos sin → saidSpot s ≡ rotateAnswer a cos sin → r ≡ s
-rotate-outcome a cos sin r s h k = spot-one r s (one h k)
+pub rotate-outcome : One rotate.ended rotate.Reads.Learnt
+rotate-outcome κs a x y h k = both (spot-one _ _ (one h k)) refl
 
-pub lerp-outcome : (a : P) (o : P) (t : Float) (r s : Spot) → saidSpot r ≡ lerpAnswer a o t → saidSpot s ≡ lerpAnswer a o t → r ≡ s
-lerp-outcome a o t r s h k = spot-one r s (one h k)
+pub lerp-outcome : One lerp.ended lerp.Reads.Learnt
+lerp-outcome κs a x y h k = both (spot-one _ _ (one h k)) refl
 
-pub cross-outcome : (a : P) (b : P) (r s : Leaf) → said r ≡ crossAnswer a b → said s ≡ crossAnswer a b → r ≡ s
-cross-outcome a b r s h k = leaf-one r s (one h k)
+pub cross-outcome : One cross.ended cross.Reads.Learnt
+cross-outcome κs a x y h k = both (leaf-one _ _ (one h k)) refl
 
-pub inside-outcome : (rule : FillRule) (winding : ℤ) (r s : Truth) → saidTruth r ≡ insideAnswer rule winding → saidTruth s ≡ insideAnswer rule winding → r ≡ s
-inside-outcome rule winding r s h k = truth-one r s (one h k)
+pub inside-outcome : One inside.ended inside.Reads.Learnt
+inside-outcome κs a x y h k = both (truth-one _ _ (one h k)) refl
 
-pub winding-outcome : (corners : List Float) (ends : List ℕ) (p : P) (r s : Wound) → saidWound r ≡ windingAnswer corners ends p → saidWound s ≡ windingAnswer corners ends p → r ≡ s
-winding-outcome corners ends p r s h k = wound-one r s (one h k)
+pub winding-outcome : One winding.ended winding.Reads.Learnt
+winding-outcome κs a x y h k = both (wound-one _ _ (one h k)) refl
 
-pub point-inside-outcome : (corners : List Float) (ends : List ℕ) (rule : FillRule) (p : P) (r s : Truth) → saidTruth r ≡ pointInsideAnswer corners ends rule p → saidTruth s ≡ pointInsideAnswer corners ends rule p → r ≡ s
-point-inside-outcome corners ends rule p r s h k = truth-one r s (one h k)
+pub point-inside-outcome : One point_inside.ended point_inside.Reads.Learnt
+point-inside-outcome κs a x y h k = both (truth-one _ _ (one h k)) refl
 
-pub segment-inside-outcome : (corners : List Float) (ends : List ℕ) (rule : FillRule) (a : P) (b : P) (step : Float) (r s : Truth) → saidTruth r ≡ segmentInsideAnswer corners ends rule a b step → saidTruth s ≡ segmentInsideAnswer corners ends rule a b step → r ≡ s
-segment-inside-outcome corners ends rule a b step r s h k = truth-one r s (one h k)
+pub segment-inside-outcome : One segment_inside.ended segment_inside.Reads.Learnt
+segment-inside-outcome κs a x y h k = both (truth-one _ _ (one h k)) refl
 
-pub polyline-length-outcome : (line : List Float) (r s : Leaf) → said r ≡ polylineLengthAnswer line → said s ≡ polylineLengthAnswer line → r ≡ s
-polyline-length-outcome line r s h k = leaf-one r s (one h k)
+pub polyline-length-outcome : One polyline_length.ended polyline_length.Reads.Learnt
+polyline-length-outcome κs a x y h k = both (leaf-one _ _ (one h k)) refl
 
-pub resample-outcome : (line : List Float) (len : Float) (out : List Float) {r r′ : Sewn} {o o′ : List Float} → (r ≡ resampleSewn line len (length out)) × (o ≡ resampleOutput line len out) → (r′ ≡ resampleSewn line len (length out)) × (o′ ≡ resampleOutput line len out) → (r ≡ r′) × (o ≡ o′)
-resample-outcome line len out = two
+pub resample-keep-corners-outcome : One resample_keep_corners.ended resample_keep_corners.Reads.Learnt
+resample-keep-corners-outcome κs a x y h k = both (one (h .0) (k .0)) (λ i. (tt, (tt, (one (h .1) (k .1) i, tt))))
 
 -- ---- running stitch, satin, patterns
 
-pub running-outcome : (line : List Float) (closed : Bool) (len : Float) (passes : ℕ) (out : List Float) {r r′ : Sewn} {o o′ : List Float} → (r ≡ runningSewn line closed len passes (length out)) × (o ≡ runningOutput line closed len passes out) → (r′ ≡ runningSewn line closed len passes (length out)) × (o′ ≡ runningOutput line closed len passes out) → (r ≡ r′) × (o ≡ o′)
-running-outcome line closed len passes out = two
+pub running-outcome : One running.ended running.Reads.Learnt
+running-outcome κs a x y h k = both (one (h .0) (k .0)) (λ i. (tt, (tt, (tt, (tt, (one (h .1) (k .1) i, tt))))))
 
-pub made-outcome : (g : Satin) (r s : Made) → saidMade r ≡ madeAnswer g → saidMade s ≡ madeAnswer g → r ≡ s
-made-outcome g r s h k = said-one r s (one h k)
+pub made-outcome : One made.ended made.Reads.Learnt
+made-outcome κs a x y h k = both (said-one _ _ (one h k)) refl
 
-pub pairs-outcome : (a : List Float) (b : List Float) (sync : List Float) (step : Float) (work : List Float) (out : List Float) {r r′ : Sewn} {o o′ : List Float} {w w′ : List Float} → (r ≡ pairsSewn a b sync step (length work) (length out)) × (o ≡ pairsOutput a b sync step (length work) out) × (w ≡ pairsWork a b sync step work (length out)) → (r′ ≡ pairsSewn a b sync step (length work) (length out)) × (o′ ≡ pairsOutput a b sync step (length work) out) × (w′ ≡ pairsWork a b sync step work (length out)) → (r ≡ r′) × (o ≡ o′) × (w ≡ w′)
-pairs-outcome a b sync step work out = three
+pub pairs-outcome : One pairs.ended pairs.Reads.Learnt
+pairs-outcome κs a x y h k = both (one (h .0) (k .0)) (λ i. (tt, (tt, (tt, (tt, (one (h .2) (k .2) i, (one (h .1) (k .1) i, tt)))))))
 
-pub split-long-outcome : (line : List Float) (max : Float) (out : List Float) {r r′ : Sewn} {o o′ : List Float} → (r ≡ splitSewn line max (length out)) × (o ≡ splitOutput line max out) → (r′ ≡ splitSewn line max (length out)) × (o′ ≡ splitOutput line max out) → (r ≡ r′) × (o ≡ o′)
-split-long-outcome line max out = two
+pub split-long-outcome : One split_long.ended split_long.Reads.Learnt
+split-long-outcome κs a x y h k = both (one (h .0) (k .0)) (λ i. (tt, (tt, (one (h .1) (k .1) i, tt))))
 
-pub s-stitch-outcome : (line : List Float) (out : List Float) {r r′ : Sewn} {o o′ : List Float} → (r ≡ sStitchSewn line (length out)) × (o ≡ sStitchOutput line out) → (r′ ≡ sStitchSewn line (length out)) × (o′ ≡ sStitchOutput line out) → (r ≡ r′) × (o ≡ o′)
-s-stitch-outcome line out = two
+pub s-stitch-outcome : One s_stitch.ended s_stitch.Reads.Learnt
+s-stitch-outcome κs a x y h k = both (one (h .0) (k .0)) (λ i. (tt, (one (h .1) (k .1) i, tt)))
 
-pub column-outcome : (a : List Float) (b : List Float) (sync : List Float) (g : Satin) (work : List Float) (out : List Float) {r r′ : Sewn} {o o′ : List Float} {w w′ : List Float} → (r ≡ columnSewn a b sync g (length work) (length out)) × (o ≡ columnOutput a b sync g (length work) out) × (w ≡ columnWork a b sync g work (length out)) → (r′ ≡ columnSewn a b sync g (length work) (length out)) × (o′ ≡ columnOutput a b sync g (length work) out) × (w′ ≡ columnWork a b sync g work (length out)) → (r ≡ r′) × (o ≡ o′) × (w ≡ w′)
-column-outcome a b sync g work out = three
+pub column-outcome : One column.ended column.Reads.Learnt
+column-outcome κs a x y h k = both (one (h .0) (k .0)) (λ i. (tt, (tt, (tt, (tt, (one (h .2) (k .2) i, (one (h .1) (k .1) i, tt)))))))
 
-pub bounds-outcome : (corners : List Float) (ends : List ℕ) (r s : Box) → saidBox r ≡ boundsAnswer corners ends → saidBox s ≡ boundsAnswer corners ends → r ≡ s
-bounds-outcome corners ends r s h k = box-one r s (one h k)
+pub bounds-outcome : One bounds.ended bounds.Reads.Learnt
+bounds-outcome κs a x y h k = both (box-one _ _ (one h k)) refl
 
-pub clip-inside-outcome : (line : List Float) (corners : List Float) (ends : List ℕ) (rule : FillRule) (out : List Float) (stops : List ℕ) {r r′ : Lines} {o o′ : List Float} {t t′ : List ℕ} → (r ≡ clipSaid line corners ends rule (length out) (length stops)) × (o ≡ clipPoints line corners ends rule out stops) × (t ≡ clipEnds line corners ends rule out stops) → (r′ ≡ clipSaid line corners ends rule (length out) (length stops)) × (o′ ≡ clipPoints line corners ends rule out stops) × (t′ ≡ clipEnds line corners ends rule out stops) → (r ≡ r′) × (o ≡ o′) × (t ≡ t′)
-clip-inside-outcome line corners ends rule out stops = three
+pub clip-inside-outcome : One clip_inside.ended clip_inside.Reads.Learnt
+clip-inside-outcome κs a x y h k = both (one (h .0) (k .0)) (λ i. (tt, (tt, (tt, (tt, (one (h .1) (k .1) i, (one (h .2) (k .2) i, tt)))))))
 
-pub cross-stitch-outcome : (corners : List Float) (ends : List ℕ) (rule : FillRule) (cell : Float) (out : List Float) (stops : List ℕ) {r r′ : Lines} {o o′ : List Float} {t t′ : List ℕ} → (r ≡ crossSaid corners ends rule cell (length out) (length stops)) × (o ≡ crossPoints corners ends rule cell out stops) × (t ≡ crossEnds corners ends rule cell out stops) → (r′ ≡ crossSaid corners ends rule cell (length out) (length stops)) × (o′ ≡ crossPoints corners ends rule cell out stops) × (t′ ≡ crossEnds corners ends rule cell out stops) → (r ≡ r′) × (o ≡ o′) × (t ≡ t′)
-cross-stitch-outcome corners ends rule cell out stops = three
+pub cross-stitch-outcome : One cross_stitch.ended cross_stitch.Reads.Learnt
+cross-stitch-outcome κs a x y h k = both (one (h .0) (k .0)) (λ i. (tt, (tt, (tt, (tt, (one (h .1) (k .1) i, (one (h .2) (k .2) i, tt)))))))
 
--- ---- the fill: one equation says all that a call leaves
+-- ---- the fill
 
+-- one equation says all that it leaves
 left-parts : {r r′ : Filled} {p p′ f f′ : List Float} {e e′ w w′ : List ℕ} → left r p e f w ≡ left r′ p′ e′ f′ w′ → (r ≡ r′) × (p ≡ p′) × (e ≡ e′) × (f ≡ f′) × (w ≡ w′)
 left-parts h = (ap (λ (l : Left). l .said) h, ap (λ (l : Left). l .points) h, ap (λ (l : Left). l .ends) h, ap (λ (l : Left). l .floats) h, ap (λ (l : Left). l .wholes) h)
 
-pub tatami-outcome : (corners : List Float) (ends : List ℕ) (rule : FillRule) (g : Settings) (stagger : ℕ) (upward : Bool) (points : List Float) (stops : List ℕ) (floats : List Float) (wholes : List ℕ) {r r′ : Filled} {p p′ f f′ : List Float} {e e′ w w′ : List ℕ} → left r p e f w ≡ tatamiLeft corners ends rule g stagger upward points stops floats wholes → left r′ p′ e′ f′ w′ ≡ tatamiLeft corners ends rule g stagger upward points stops floats wholes → (r ≡ r′) × (p ≡ p′) × (e ≡ e′) × (f ≡ f′) × (w ≡ w′)
-tatami-outcome corners ends rule g stagger upward points stops floats wholes h k = left-parts (one h k)
+pub tatami-outcome : One tatami.ended tatami.Reads.Learnt
+tatami-outcome κs a x y h k = let s = left-parts (one h k) in both (s .0) (λ i. (tt, (tt, (tt, (tt, (tt, (tt, (s .1 i, (s .2 i, (s .3 i, (s .4 i, tt)))))))))))
 
-pub row-list-outcome : (corners : List Float) (ends : List ℕ) (rule : FillRule) (g : Settings) (stagger : ℕ) (upward : Bool) (ys : List Float) (rows : List ℤ) (sections : List ℕ) (floats : List Float) (wholes : List ℕ) {r r′ : Listed} {y y′ f f′ : List Float} {k k′ : List ℤ} {s s′ w w′ : List ℕ} → leftList r y k s f w ≡ rowListLeft corners ends rule g stagger upward ys rows sections floats wholes → leftList r′ y′ k′ s′ f′ w′ ≡ rowListLeft corners ends rule g stagger upward ys rows sections floats wholes → (r ≡ r′) × (y ≡ y′) × (k ≡ k′) × (s ≡ s′) × (f ≡ f′) × (w ≡ w′)
-row-list-outcome corners ends rule g stagger upward ys rows sections floats wholes a b =
-    let h = one a b in
-    (ap (λ (l : LeftList). l .said) h, ap (λ (l : LeftList). l .ys) h, ap (λ (l : LeftList). l .rows) h, ap (λ (l : LeftList). l .sections) h, ap (λ (l : LeftList). l .floats) h, ap (λ (l : LeftList). l .wholes) h)
+pub row-list-outcome : One row_list.ended row_list.Reads.Learnt
+row-list-outcome κs a x y h k = let s = one h k in λ i. (s i .said, (tt, (tt, (tt, (tt, (tt, (tt, (s i .ys, (s i .rows, (s i .sections, (s i .floats, (s i .wholes, tt))))))))))))
 
-pub fill-room-outcome : (corners : List Float) (ends : List ℕ) (g : Settings) (stagger : ℕ) {r r′ : Room} → r ≡ roomOf corners ends g stagger → r′ ≡ roomOf corners ends g stagger → r ≡ r′
-fill-room-outcome corners ends g stagger = one
+pub fill-room-outcome : One fill_room.ended fill_room.Reads.Learnt
+fill-room-outcome κs a x y h k = both (one h k) refl
 
--- ---- the program's parts
+-- ---- a job
 
-pub job-outcome : (bytes : List ℕ) (corners : List Float) (ends : List ℕ) {r r′ : Parsed} {l l′ : List Float} {e e′ : List ℕ} → (r ≡ parsed bytes (length corners) (length ends)) × (l ≡ Job·left r (Job·corners bytes) corners) × (e ≡ Job·left r (Job·ends bytes) ends) → (r′ ≡ parsed bytes (length corners) (length ends)) × (l′ ≡ Job·left r′ (Job·corners bytes) corners) × (e′ ≡ Job·left r′ (Job·ends bytes) ends) → (r ≡ r′) × (l ≡ l′) × (e ≡ e′)
-job-outcome bytes corners ends p q =
-    let s = one (p .0) (q .0) in
-    (s, p .1 ∙ ap (λ (r : Parsed). Job·left r (Job·corners bytes) corners) s ∙ sym (q .1), p .2 ∙ ap (λ (r : Parsed). Job·left r (Job·ends bytes) ends) s ∙ sym (q .2))
+pub parse-outcome : One parse.ended parse.Reads.Learnt
+parse-outcome κs a x y h k =
+    let s = one (h .0) (k .0) in
+    let bytes = a .0 .now in
+    let c = h .1 .0 ∙ ap (λ (r : Parsed). Job·left r (Job·corners bytes) (a .1 .0 .now)) s ∙ sym (k .1 .0) in
+    let e = h .1 .1 ∙ ap (λ (r : Parsed). Job·left r (Job·ends bytes) (a .1 .1 .0 .now)) s ∙ sym (k .1 .1) in
+    both s (λ i. (tt, (c i, (e i, tt))))
 
-pub fill-job-outcome : (bytes : List ℕ) (corners : List Float) (ends : List ℕ) (points : List Float) (stops : List ℕ) (floats : List Float) (wholes : List ℕ) {r r′ : Filled} {p p′ f f′ l l′ : List Float} {e e′ w w′ k k′ : List ℕ} → (left r p e f w ≡ jobLeft bytes (length corners) (length ends) points stops floats wholes) × (l ≡ Job·left (parsed bytes (length corners) (length ends)) (Job·corners bytes) corners) × (k ≡ Job·left (parsed bytes (length corners) (length ends)) (Job·ends bytes) ends) → (left r′ p′ e′ f′ w′ ≡ jobLeft bytes (length corners) (length ends) points stops floats wholes) × (l′ ≡ Job·left (parsed bytes (length corners) (length ends)) (Job·corners bytes) corners) × (k′ ≡ Job·left (parsed bytes (length corners) (length ends)) (Job·ends bytes) ends) → ((r ≡ r′) × (p ≡ p′) × (e ≡ e′) × (f ≡ f′) × (w ≡ w′)) × (l ≡ l′) × (k ≡ k′)
-fill-job-outcome bytes corners ends points stops floats wholes h k = (left-parts (one (h .0) (k .0)), one (h .1) (k .1), one (h .2) (k .2))
+pub fill-job-outcome : One fill_job.ended fill_job.Reads.Learnt
+fill-job-outcome κs a x y h k = let s = left-parts (one (h .0) (k .0)) in both (s .0) (λ i. (tt, (one (h .1 .0) (k .1 .0) i, (one (h .1 .1) (k .1 .1) i, (s .1 i, (s .2 i, (s .3 i, (s .4 i, tt))))))))
+
+-- ---- all that the program prints. `fill::answer` is a program's, which no other crate can name: its contract's words are written once more, and only reading holds them to the source
 
 -- bytes m at the front of out, and their count
 front-one : (m out : List ℕ) {r r′ : ℕ} {o o′ : List ℕ} → (r ≡ length m) × (o ≡ m ++ drop r out) → (r′ ≡ length m) × (o′ ≡ m ++ drop r′ out) → (r ≡ r′) × (o ≡ o′)
