@@ -13,7 +13,7 @@ returns c = rw (c .before .before .if1 .taken)
 returns-2 : tie.Need-returns-2
 unfolding overlap
 returns-2 c =
-    let s = c .before .args in
+    let s = c .before .before .before .args in
     let apart : lt (s .last .xa) (s .next .xb) ≡ false = c .if1 .left in
     rw apart
 
