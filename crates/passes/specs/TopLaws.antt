@@ -6,21 +6,26 @@ use mathlib.Core.Bool.{Bool, true, false, not, _&&_}
 use mathlib.Core.List.{List, [], _∷_, _++_}
 use lib.ListN.{length, take, drop, getD}
 use lib.Seq.{length-take-le, getD-take}
-use lib.Ieee.{Float, nan}
-use Rattle.numbers.specs.Num.{_⊗_}
+use lib.Ieee.{Float, nan, binary64, fits, le, lt, round}
+use lib.Dec.{T}
+use Rattle.numbers.specs.Num.{literal}
+use Rattle.numbers.specs.Root.{isqrt, nearRoot, rootUnits, root}
+use Rattle.numbers.specs.Laws.{root-mono, holds}
+use Rattle.numbers.specs.FloatOrder.{le-lt-clash}
+use Rattle.seqs.specs.Tests.{refute}
 use Rattle.seqs.specs.Slices.{put}
 use Rattle.seqs.specs.Front.{Front, front-at, front-kept, next, none}
 use Rattle.seqs.specs.Wrote.{put-room}
 use Rattle.geom.specs.declared.point.P.{P}
-use Rattle.geom.specs.Point.{point, dist}
+use Rattle.geom.specs.Point.{point}
 use Rattle.geom.specs.Outline.{points}
 use Rattle.geom.specs.Sewing.{flat}
 use Rattle.geom.specs.SewingLaws.{flat-length, points-room, points-put}
 use Rattle.satinrules.specs.declared.Pair.{Pair}
 use Rattle.satinrules.specs.declared.Satin.{Satin}
-use Rattle.satinrules.specs.Settings.{shortInset}
+use Rattle.satinrules.specs.Settings.{shortDist}
 use Rattle.satinrules.specs.Column.{widened, crowded, pulled, stitch, stitchesFrom, stitches}
-use Rattle.passes.specs.Threads.{pairIn, pairsIn}
+use Rattle.passes.specs.Threads.{pairIn, pairsIn, movedIn}
 use Rattle.passes.specs.ThreadsLaws.{noPair, slice-at, slice-length}
 
 from-length : (g : Satin) (second : Bool) (o : Pair) (qs : List Pair) → length (stitchesFrom g second o qs) ≡ 2 * length qs
@@ -37,9 +42,8 @@ stitches-length g (q ∷ qs) = from-length g false q (q ∷ qs)
 
 module _ (g : Satin) (second : Bool) (o q : Pair) where
   pub stitch-short : g .«short_stitches» ≡ true → second ≡ true
-      → stitch g second o q ≡ pulled (widened g q .a) (widened g q .b) (dist (widened g q .a) (widened g q .b) ⊗ shortInset) (crowded (q .a) (o .a))
-      ∷ pulled (widened g q .b) (pulled (widened g q .a) (widened g q .b) (dist (widened g q .a) (widened g q .b) ⊗ shortInset) (crowded (q .a) (o .a))) (dist (widened g q .a) (widened g q .b) ⊗ shortInset) (crowded (q .b) (o .b)) ∷ []
-  unfolding stitch
+      → stitch g second o q ≡ movedIn (widened g q) (crowded (q .a) (o .a)) (crowded (q .b) (o .b)) .a ∷ movedIn (widened g q) (crowded (q .a) (o .a)) (crowded (q .b) (o .b)) .b ∷ []
+  unfolding stitch movedIn
   stitch-short e f = let h : (g .«short_stitches» && second) ≡ true = rw e f in rw h
 
   long : (g .«short_stitches» && second) ≡ false → stitch g second o q ≡ widened g q .a ∷ widened g q .b ∷ []
@@ -51,6 +55,15 @@ module _ (g : Satin) (second : Bool) (o q : Pair) where
 
   pub stitch-long : g .«short_stitches» ≡ false → stitch g second o q ≡ widened g q .a ∷ widened g q .b ∷ []
   stitch-long e = long (rw e)
+
+-- from the square of 2.5 on, no root is below it
+square-root : root (literal 25 4) ≡ shortDist
+unfolding literal round shortDist root rootUnits nearRoot isqrt
+square-root = refl
+
+pub not-crowded : (s : Float) → T (fits binary64 s) → le (literal 25 4) s ≡ true → lt (root s) shortDist ≡ false
+unfolding literal round
+not-crowded s f h = refute _ (λ e. absurd (le-lt-clash (root (literal 25 4)) (root s) (root-mono (literal 25 4) s (unfold fits in tt) f (unfold le in tt) (holds h)) (rw square-root (holds e))))
 
 -- ---- n pairs stand at the front of w₀
 module _ (w₀ : List Float) (n : ℕ) (has : 4 * n ≤ length w₀) where

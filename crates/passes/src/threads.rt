@@ -5,6 +5,7 @@ ghost use mathlib.Core.List.{[], _∷_};
 ghost use Prim.Native.Nat.{_+_, _-_, _*_, _/_, _<_, _≤_};
 ghost use lib.ListN.{length};
 ghost use Rattle.seqs.specs.Slices.{put};
+ghost use Rattle.geom.specs.Point.{len, norm};
 ghost use Rattle.geom.specs.Outline.{points};
 ghost use Rattle.geom.specs.OutlineLaws.{cornerAt};
 ghost use Rattle.geom.specs.Sewing.{flat};
@@ -35,15 +36,28 @@ pub fn pair_in(s: &[f64], i: usize) -> Pair
     Pair { a, b }
 }
 
-// Both points so far inside the rails.
+// The direction of v, whose length is l.
+fn towards(v: P, l: f64) -> P
+    requires { ⌜ l ≡ len v ⌝ }
+    ensures { λ r. ⌜ r ≡ norm v ⌝ }
+{
+    if l > 1e-12 {
+        return v.times(1.0 / l);
+    }
+    P { x: 0.0, y: 0.0 }
+}
+
+// Both points so far inside the rails. From b to a it is as far as from a to b: one root is enough.
 fn inset(q: Pair) -> Pair
     ensures { λ r. ⌜ r ≡ inset q ⌝ }
 {
     let a = q.a;
     let b = q.b;
-    let d = smaller(Satin::UNDERLAY_INSET, a.dist(b) * 0.25);
-    let p = a.plus(b.minus(a).norm().times(d));
-    let r = b.plus(a.minus(b).norm().times(d));
+    let v = a.minus(b);
+    let l = v.len();
+    let d = smaller(Satin::UNDERLAY_INSET, l * 0.25);
+    let p = a.plus(towards(b.minus(a), l).times(d));
+    let r = b.plus(towards(v, l).times(d));
     Pair { a: p, b: r }
 }
 

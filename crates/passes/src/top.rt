@@ -7,7 +7,7 @@ ghost use Rattle.seqs.specs.Slices.{put, capped};
 ghost use Rattle.geom.specs.Outline.{points};
 ghost use Rattle.geom.specs.Sewing.{flat};
 ghost use Rattle.satinrules.specs.Column.{spaced, widened, crowded, pulled, stitch, stitches, splitBy, styled};
-ghost use Rattle.passes.specs.Threads.{pairsIn};
+ghost use Rattle.passes.specs.Threads.{pairsIn, movedIn};
 use crate::threads::pair_in;
 use geom::P;
 use geom::sewing::add_within;
@@ -34,11 +34,15 @@ pub fn spaced(style: Style, spacing: f64) -> f64
     }
 }
 
-// Whether p lies too near to o.
+// Whether p lies too near to o. From the square of that distance on, 6.25, it needs no root.
 fn crowded(p: P, o: P) -> bool
     ensures { λ r. ⌜ r ≡ crowded p o ⌝ }
 {
-    p.dist(o) < Satin::SHORT_DIST
+    let d = p.minus(o);
+    if d.x * d.x + d.y * d.y >= 6.25 {
+        return false;
+    }
+    d.len() < Satin::SHORT_DIST
 }
 
 // p, moved towards q where it is to be short.
@@ -63,19 +67,39 @@ fn widened(g: Satin, q: Pair) -> Pair
     Pair { a: p, b: r }
 }
 
-// The two points of pair q, after o. Where the stitch is short, b2 moves towards the moved a2.
+// Both points moved in where they are to be short, b2 towards the moved a2.
+fn moved(w: Pair, near: bool, far: bool) -> Pair
+    ensures { λ r. ⌜ r ≡ movedIn w near far ⌝ }
+{
+    let a = w.a;
+    let b = w.b;
+    let by = a.dist(b) * Satin::SHORT_INSET;
+    let a2 = pulled(a, b, by, near);
+    let b2 = pulled(b, a2, by, far);
+    Pair { a: a2, b: b2 }
+}
+
+// The same; where neither is to be short, the width isn't asked for.
+fn shortened(w: Pair, near: bool, far: bool) -> Pair
+    ensures { λ r. ⌜ r ≡ movedIn w near far ⌝ }
+{
+    if near {
+        return moved(w, near, far);
+    }
+    if far {
+        return moved(w, near, far);
+    }
+    w
+}
+
+// The two points of pair q, after o.
 fn stitch(g: Satin, second: bool, o: Pair, q: Pair) -> Pair
     ensures { λ r. ⌜ r .a ∷ r .b ∷ [] ≡ stitch g second o q ⌝ }
 {
     let w = widened(g, q);
     if g.short_stitches {
         if second {
-            let a = w.a;
-            let b = w.b;
-            let by = a.dist(b) * Satin::SHORT_INSET;
-            let a2 = pulled(a, b, by, crowded(q.a, o.a));
-            let b2 = pulled(b, a2, by, crowded(q.b, o.b));
-            return Pair { a: a2, b: b2 };
+            return shortened(w, crowded(q.a, o.a), crowded(q.b, o.b));
         }
         return w;
     }
