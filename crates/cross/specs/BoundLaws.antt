@@ -1,16 +1,14 @@
--- The bounds of rings are those of their corners, and a side that a corner doesn't pass stays. Assumes nothing.
+-- The bounds of rings are those of their corners. Assumes nothing.
 use Prim.Native.Nat.{ℕ, _+_, _-_, _*_, _/_, _≤_, _<_}
 use native.Mathlib.Omega.{arith}
-use mathlib.Core.Path.{_≡_, refl, sym, ap, subst, _∙_}
-use mathlib.Core.Bool.{Bool, true, false, not, cond, _&&_}
+use mathlib.Core.Path.{_≡_, refl, sym, ap, _∙_}
+use mathlib.Core.Bool.{true, _&&_}
 use mathlib.Core.List.{List, [], _∷_, _++_}
-use lib.Dec.{T, leb}
+use lib.Dec.{leb}
 use lib.ListN.{length, take, drop, take-append-drop}
 use lib.Seq.{drop-drop, drop-length}
-use lib.Ieee.{Float, lt, isNan}
+use lib.Ieee.{Float}
 use borrow.Author.Tests.{leb-true, eqb-true}
-use Rattle.numbers.specs.Order.{before, smaller, larger}
-use Rattle.numbers.specs.Laws as laws
 use Rattle.seqs.specs.Lists.{each, fold}
 use Rattle.seqs.specs.Tests.{and-both}
 use Rattle.geom.specs.declared.point.P.{P}
@@ -19,35 +17,6 @@ use Rattle.geom.specs.OutlineLaws.{cornerAt, points-length, points-next, points
 use Rattle.patterns_rules.specs.declared.Bounds.{Bounds}
 use Rattle.patterns_rules.specs.Patterns.{widen, nowhere, bounds}
 use Rattle.cross.specs.Cells.{boundsOf}
-
--- of two in order, the smaller is the first and the larger the second
-module _ (x y : Float) (h : lt x y ≡ true) where
-  first-number : isNan x ≡ true → ⊥
-  first-number e = subst (λ (b : Bool). T (not b)) e (laws.le-left x y (laws.lt-le x y (laws.holds h)))
-
-  second-number : isNan y ≡ true → ⊥
-  second-number e = subst (λ (b : Bool). T (not b)) e (laws.le-right x y (laws.lt-le x y (laws.holds h)))
-
-  not-turned : before y x ≡ true → ⊥
-  not-turned e = laws.before-asym x y (laws.lt-before x y (laws.holds h)) (laws.holds e)
-
-  pub smaller-first : smaller x y ≡ x
-  unfolding smaller
-  smaller-first = go (isNan x) (before y x) refl refl
-    where
-      go : (a b : Bool) → isNan x ≡ a → before y x ≡ b → cond a y (cond b y x) ≡ x
-      go true b e f = absurd (first-number e)
-      go false true e f = absurd (not-turned f)
-      go false false e f = refl
-
-  pub larger-second : larger y x ≡ y
-  unfolding larger
-  larger-second = go (isNan y) (before y x) refl refl
-    where
-      go : (a b : Bool) → isNan y ≡ a → before y x ≡ b → cond a x (cond b x y) ≡ y
-      go true b e f = absurd (second-number e)
-      go false true e f = absurd (not-turned f)
-      go false false e f = refl
 
 -- rings cut from a list, one after the other, are the list
 cut-all : (a : ℕ) (es : List ℕ) (l : List P) → rising a es (length l) ≡ true → each (λ (r : List P). r) (cut a es l) ≡ drop a l

@@ -1,12 +1,15 @@
 -- What the code of cross stitch goes by: the grid with its counts stopped past 4,096, where a scan of a row's cells stops, and what a writer needs. Definitions only.
 use Prim.Native.Nat.{ℕ, _+_, _-_, _≤_, _<_}
 use mathlib.Core.Path.{_≡_}
-use mathlib.Core.Bool.{Bool, true, false}
+use mathlib.Core.Bool.{Bool, true, false, not}
+use mathlib.Core.Logic.{_⊎_}
 use mathlib.Core.List.{List, [], _∷_, map}
 use lib.IntN.{pos, _+ℤ_}
-use lib.Ieee.{Float}
+use lib.Dec.{T}
+use lib.Ieee.{Float, isNan, eq}
 use mir.Syntax.{w64}
 use mir.Val.{SFits}
+use Rattle.numbers.specs.Num.{zero64}
 use Rattle.seqs.specs.Lists.{upto, sift, fold}
 use Rattle.seqs.specs.Slices.{capped}
 use Rattle.geom.specs.declared.point.P.{P}
@@ -20,6 +23,25 @@ use Rattle.patterns_rules.specs.Patterns.{nowhere, widen, runs, cellInside, out
 -- the bounds of a list of corners
 abbrev pub boundsOf : List P → Bounds
 boundsOf ps = fold widen nowhere ps
+
+-- x is y, or both are zeros
+pub record Side (x y : Float) : Type 0 where
+  pub number : T (not (isNan x))
+  pub like : (x ≡ y) ⊎ (T (eq x zero64) × T (eq y zero64))
+
+-- bounds that differ in signs of zeros only
+pub record Alike (a b : Bounds) : Type 0 where
+  pub left : Side (a .left) (b .left)
+  pub top : Side (a .top) (b .top)
+  pub right : Side (a .right) (b .right)
+  pub bottom : Side (a .bottom) (b .bottom)
+
+-- no side is a zero
+pub record Settled (b : Bounds) : Type 0 where
+  pub left : eq (b .left) zero64 ≡ false
+  pub top : eq (b .top) zero64 ≡ false
+  pub right : eq (b .right) zero64 ≡ false
+  pub bottom : eq (b .bottom) zero64 ≡ false
 
 -- counts stopped one past 4,096
 abbrev pub stopped : Grid → Grid

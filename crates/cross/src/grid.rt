@@ -1,15 +1,15 @@
 // The bounds of an outline, and the cells within them.
 ghost use mathlib.Core.Path.{_≡_};
-ghost use mathlib.Core.Bool.{true};
+ghost use mathlib.Core.Bool.{true, cond};
 ghost use Prim.Native.Nat.{_^_, _<_};
+ghost use lib.Ieee.{lt};
 ghost use lib.IntN.{natAbs, _-ℤ_};
 ghost use lib.Signed.{ltZ};
-ghost use Rattle.numbers.specs.Order.{smaller, larger};
 ghost use Rattle.seqs.specs.Slices.{capped};
 ghost use Rattle.geom.specs.Outline.{points};
 ghost use Rattle.limits.specs.Limits.{mostCells};
 ghost use Rattle.patterns_rules.specs.Patterns.{upTo, gridIn, xAt, yAt};
-ghost use Rattle.cross.specs.Cells.{boundsOf, stopped, Laid};
+ghost use Rattle.cross.specs.Cells.{boundsOf, Alike, Settled, stopped, Laid};
 use leaves::ceil;
 use leaves::floor;
 use leaves::is_finite;
@@ -20,28 +20,22 @@ use leaves::to_i64;
 use patterns_rules::Bounds;
 use patterns_rules::Grid;
 
-// The smaller of two: most corners move no side, so that is asked first.
-fn lower(side: f64, x: f64) -> f64
-    ensures { λ r. ⌜ r ≡ smaller side x ⌝ }
+// What lies first, by value.
+fn least(side: f64, x: f64) -> f64
+    ensures { λ r. ⌜ r ≡ cond (lt x side) x side ⌝ }
 {
-    if side < x {
-        return side;
-    }
-    smaller(side, x)
+    if x < side { x } else { side }
 }
 
-// The larger of two, likewise.
-fn upper(side: f64, x: f64) -> f64
-    ensures { λ r. ⌜ r ≡ larger side x ⌝ }
+// What lies last, by value.
+fn most(side: f64, x: f64) -> f64
+    ensures { λ r. ⌜ r ≡ cond (lt side x) x side ⌝ }
 {
-    if x < side {
-        return side;
-    }
-    larger(side, x)
+    if side < x { x } else { side }
 }
 
-// With no corners, plus infinity below and minus infinity above.
-pub fn bounds(corners: &[f64]) -> Bounds
+// With -0 before +0 at every corner.
+fn ordered_bounds(corners: &[f64]) -> Bounds
     ensures { λ r. ⌜ r ≡ boundsOf (points (now (corners .entry))) ⌝ }
 {
     let mut left = f64::from_bits(9218868437227405312);
@@ -52,10 +46,10 @@ pub fn bounds(corners: &[f64]) -> Bounds
     while i + 1 < corners.len() {
         let x = corners[i];
         let y = corners[i + 1];
-        left = lower(left, x);
-        top = lower(top, y);
-        right = upper(right, x);
-        bottom = upper(bottom, y);
+        left = smaller(left, x);
+        top = smaller(top, y);
+        right = larger(right, x);
+        bottom = larger(bottom, y);
         i += 2;
     }
     Bounds {
@@ -64,6 +58,62 @@ pub fn bounds(corners: &[f64]) -> Bounds
         right: right,
         bottom: bottom,
     }
+}
+
+// The same by plain comparisons: right but for the sign of a zero.
+fn plain_bounds(corners: &[f64]) -> Bounds
+    ensures { λ r. ⌜ Alike r (boundsOf (points (now (corners .entry)))) ⌝ }
+{
+    let mut left = f64::from_bits(9218868437227405312);
+    let mut top = f64::from_bits(9218868437227405312);
+    let mut right = f64::from_bits(18442240474082181120);
+    let mut bottom = f64::from_bits(18442240474082181120);
+    let mut i = 0;
+    while i + 1 < corners.len() {
+        let x = corners[i];
+        let y = corners[i + 1];
+        left = least(left, x);
+        top = least(top, y);
+        right = most(right, x);
+        bottom = most(bottom, y);
+        i += 2;
+    }
+    Bounds {
+        left: left,
+        top: top,
+        right: right,
+        bottom: bottom,
+    }
+}
+
+// Whether no side is a zero.
+fn settled(b: Bounds) -> bool
+    ensures { λ r. ⌜ (r ≡ true → Settled b) ⌝ }
+{
+    if b.left == 0.0 {
+        return false;
+    }
+    if b.top == 0.0 {
+        return false;
+    }
+    if b.right == 0.0 {
+        return false;
+    }
+    if b.bottom == 0.0 {
+        return false;
+    }
+    true
+}
+
+// With no corners, plus infinity below and minus infinity above. Plain comparisons are quick, and tell all sides but a zero.
+pub fn bounds(corners: &[f64]) -> Bounds
+    ensures { λ r. ⌜ r ≡ boundsOf (points (now (corners .entry))) ⌝ }
+{
+    let b = plain_bounds(corners);
+    if settled(b) {
+        return b;
+    }
+    ordered_bounds(corners)
 }
 
 // hi - lo, or 4,097 where it is more than 4,096.
