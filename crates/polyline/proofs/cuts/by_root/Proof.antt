@@ -1,3 +1,6 @@
+use mathlib.Core.Path.{_≡_}
+use mathlib.Core.Bool.{true}
+use lib.Ieee.{lt}
 use Rattle.polyline.specs.Cuts.{squareSteps}
 use Rattle.polyline.specs.LineLaws.{shortest-bits}
 use borrow.Author.Needs.{needs}
@@ -6,7 +9,9 @@ use Rattle.polyline.proofs.cuts.by_root.Tie as tie
 
 returns : tie.Need-returns
 unfolding squareSteps
-returns c = rw (shortest-bits, ← c .before .root .ensures, c .if1 .taken)
+returns c =
+    let skipped : lt (c .before .root .result) _ ≡ true = c .if1 .taken in
+    rw (shortest-bits, ← c .before .root .ensures, skipped)
 
 returns-2 : tie.Need-returns-2
 unfolding squareSteps
