@@ -1,2 +1,3 @@
+mod Blocks
 mod Loops
 mod Parity

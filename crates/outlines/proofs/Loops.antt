@@ -3,10 +3,10 @@ use Prim.Native.Nat.{ℕ, suc, _+_, _-_, _*_, _/_, _%_, _^_, _≤_, _<_}
 use native.Mathlib.Omega.{arith}
 use mathlib.Core.Path.{_≡_, sym, ap, _∙_}
 use mathlib.Core.Bool.{Bool, true, false, _&&_, cond}
-use mathlib.Core.List.{List}
+use mathlib.Core.List.{List, [], _∷_}
 use lib.Dec.{eqb}
 use lib.ListN.{length, take, drop, getD, length-take, length-drop}
-use lib.Seq.{drop-drop, take-all, length-take-le}
+use lib.Seq.{drop-drop, length-take-le}
 use lib.IntN.{ℤ, pos, _+ℤ_, natAbs, +ℤ-assoc, +ℤ-idr}
 use lib.Ieee.{Float, nan, le}
 use mir.Syntax.{w64}
@@ -16,7 +16,7 @@ use Rattle.seqs.specs.Signed.{natAbs-add, sum-small, back}
 use Rattle.geom.specs.declared.point.P.{P}
 use Rattle.geom.specs.Point.{point}
 use Rattle.geom.specs.Outline.{points, cut}
-use Rattle.geom.specs.OutlineLaws.{cornerAt, points-next, points-end, points-length, points-take, points-drop, points-last, cut-next, cut-none}
+use Rattle.geom.specs.OutlineLaws.{cornerAt, points-next, points-end, points-length, points-last, points-part, cut-next, cut-none}
 use Rattle.outlines.specs.Winding.{edge, edges, ring, winding}
 use Rattle.outlines.specs.Runs.{chain, lows, oneSide}
 use Rattle.outlines.specs.declared.rule.FillRule.{FillRule}
@@ -83,33 +83,32 @@ module _ (p : P) (l : List Float) where
   ring-short h = rw (lt-ltb (length (points l)) 3 (omega (arith, points-length l)))
 
   -- the edge from the last corner comes first
-  pub ring-start : length l % 2 ≡ 0 → 5 < length l → ring p (points l) ≡ edge (point (getD l (length l - 2) nan) (getD l (length l - 1) nan)) (cornerAt l 0) p +ℤ chain p (points l)
+  pub ring-start : length l % 2 ≡ 0 → 5 < length l → ring p (points l) ≡ edge (cornerAt l (length l - 2)) (cornerAt l 0) p +ℤ chain p (points l)
   unfolding ring edges chain
-  ring-start even h =
-      let q = points-next l 0 (omega arith) in
-      let e : length l - 2 + 1 ≡ length l - 1 = omega arith in
-      rw (le-ltb (length (points l)) 3 (omega (arith, points-length l)), points-last l _ even (omega arith), e, q)
+  ring-start even h = rw (le-ltb (length (points l)) 3 (omega (arith, points-length l)), points-last l _ even (omega arith), points-next l 0 (omega arith))
 
-  pub ring-next : (z : ℤ) (i : ℕ) → i + 17 < length l → z +ℤ chain p (points (drop i l)) ≡ (z +ℤ chain p (points (take (i + 18 - i) (drop i l)))) +ℤ chain p (points (drop (i + 16) l))
-  ring-next z i h =
-      let m = drop i l in
-      let n : i + 18 - i ≡ 18 = omega arith in
-      let e : chain p (points m) ≡ chain p (points (take 18 m)) +ℤ chain p (points (drop (i + 16) l)) = chain-split p 8 (points m) (omega (arith, points-length m, length-drop i l)) ∙ rw (← points-take 9 m, ← points-drop 8 m, drop-drop 16 i l) in
-      rw (n, e) (sym (+ℤ-assoc z _ _))
+  -- the part from k to e, and what is left from its last corner on
+  pub ring-next : (z : ℤ) (k e : ℕ) → k < e → e ≤ length l / 2 → z +ℤ chain p (drop k (points l)) ≡ (z +ℤ chain p (points (take (2 * e - 2 * k) (drop (2 * k) l)))) +ℤ chain p (drop (e - 1) (points l))
+  ring-next z k e h n =
+      let m = drop k (points l) in
+      let j : suc (e - 1 - k) ≡ e - k = omega arith in
+      let i : k + (e - 1 - k) ≡ e - 1 = omega arith in
+      let q : chain p m ≡ chain p (take (e - k) m) +ℤ chain p (drop (e - 1) (points l)) = chain-split p (e - 1 - k) m (omega (arith, points-length l, length-drop k (points l))) ∙ rw (j, drop-drop (e - 1 - k) k (points l), i) in
+      rw (q, points-part k e l) (sym (+ℤ-assoc z _ _))
 
-  pub block-small : (i : ℕ) → natAbs (chain p (points (take (i + 18 - i) (drop i l)))) ≤ 8
-  block-small i =
-      let m = take (i + 18 - i) (drop i l) in
-      omega (arith, chain-small p (points m), points-length m, length-take (i + 18 - i) (drop i l))
+  pub run-small : (k e : ℕ) → natAbs (chain p (points (take (2 * e - 2 * k) (drop (2 * k) l)))) ≤ e - k - 1
+  run-small k e =
+      let m = take (2 * e - 2 * k) (drop (2 * k) l) in
+      omega (arith, chain-small p (points m), points-length m, length-take (2 * e - 2 * k) (drop (2 * k) l))
 
-  -- what is left, as the part that is lent
-  pub ring-rest : (i : ℕ) → i ≤ length l → take (length l - i) (drop i l) ≡ drop i l
-  ring-rest i h = take-all (length l - i) (drop i l) (omega (arith, length-drop i l))
-
-  pub rest-small : (i : ℕ) → i ≤ length l → natAbs (chain p (points (take (length l - i) (drop i l)))) ≤ (length l - i) / 2 - 1
-  rest-small i h =
-      let m = take (length l - i) (drop i l) in
-      omega (arith, chain-small p (points m), points-length m, length-take (length l - i) (drop i l))
+  -- a last corner alone has no side
+  pub ring-end : (z : ℤ) (k : ℕ) → length l / 2 ≤ k + 1 → z +ℤ chain p (drop k (points l)) ≡ z
+  ring-end z k h = go (drop k (points l)) (omega (arith, length-drop k (points l), points-length l))
+    where
+      go : (m : List P) → length m ≤ 1 → z +ℤ chain p m ≡ z
+      go [] q = unfold chain in +ℤ-idr z
+      go (a ∷ []) q = unfold chain edges in +ℤ-idr z
+      go (a ∷ b ∷ m) q = absurd (omega arith)
 
 -- ---- the rings
 

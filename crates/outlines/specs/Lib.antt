@@ -1,6 +1,7 @@
--- What the contracts of `outlines` cite (Winding, Runs, Inside), and what is proved of it.
+-- What the contracts of `outlines` cite (Winding, Runs, Heights, Inside), and what is proved of it.
 pub mod Winding
 pub mod Runs
+pub mod Heights
 pub mod Inside
 pub mod WindingLaws
 pub mod Ks

@@ -1,12 +1,15 @@
 // The winding number of a point over rings of flat corners.
 ghost use mathlib.Core.Path.{_≡_};
-ghost use Prim.Native.Nat.{_%_};
+ghost use mathlib.Core.Bool.{true};
+ghost use Prim.Native.Nat.{_+_, _-_, _*_, _%_, _^_, _<_, min};
 ghost use lib.ListN.{length};
 ghost use Rattle.geom.specs.Outline.{points, rings, Layout};
 ghost use Rattle.outlines.specs.Winding.{edge, ring, winding};
 ghost use Rattle.outlines.specs.Runs.{chain, oneSide};
+ghost use Rattle.outlines.specs.Heights.{Block, Heights};
 use geom::P;
 use geom::cross;
+use geom::sewing::corner;
 
 // What the edge from a to b adds.
 fn edge(a: P, b: P, p: P) -> i64
@@ -70,42 +73,68 @@ fn one_side(l: &[f64], y: f64) -> bool
     c == n / 2
 }
 
-fn span(l: &[f64], p: P) -> i64
+// Whether the sides between the corners of l, which are of block b, add nothing: by the block's heights where t has them.
+fn passed(l: &[f64], t: &[f64], b: usize, y: f64) -> bool
+    requires { ⌜ Block b (points (now l)) (now t) ⌝ }
+    ensures { λ r. ⌜ (r ≡ true → oneSide y (points (now (l .entry))) ≡ true) ⌝ }
+{
+    if b < t.len() / 2 {
+        if y < t[2 * b] {
+            return true;
+        }
+        return t[2 * b + 1] <= y;
+    }
+    one_side(l, y)
+}
+
+fn span(l: &[f64], t: &[f64], b: usize, p: P) -> i64
+    requires { ⌜ Block b (points (now l)) (now t) ⌝ }
     ensures { λ r. ⌜ r ≡ chain p (points (now (l .entry))) ⌝ }
 {
-    if one_side(l, p.y) {
+    if passed(l, t, b, p.y) {
         return 0;
     }
     chain(l, p)
 }
 
-// One ring, handed on as a part of the corner list: eight edges at a time.
-fn ring(l: &[f64], p: P) -> i64
-    requires { ⌜ length (now l) % 2 ≡ 0 ⌝ }
+// Where the part of block b ends among the n corners of a ring that starts at place a of the outline.
+fn part_end(a: usize, b: usize, n: usize) -> usize
+    requires { ⌜ (a < 8 * b + 8) × (8 * b + 9 < 2 ^ 63) ⌝ }
+    ensures { λ r. ⌜ r ≡ min (8 * b + 9 - a) n ⌝ }
+{
+    let e = 8 * b + 9 - a;
+    if e < n {
+        return e;
+    }
+    n
+}
+
+// One ring, handed on as a part of the corner list, from place a of it on: a block of sides at a time.
+fn ring(l: &[f64], t: &[f64], a: usize, p: P) -> i64
+    requires { ⌜ (length (now l) % 2 ≡ 0) × (a + length (now l) < 2 ^ 62) × Heights a (points (now l)) (now t) ⌝ }
     ensures { λ r. ⌜ r ≡ ring p (points (now (l .entry))) ⌝ }
 {
-    let n = l.len();
-    if n < 6 {
+    let n = l.len() / 2;
+    if n < 3 {
         return 0;
     }
-    let a = P {
-        x: l[n - 2],
-        y: l[n - 1],
-    };
-    let b = P { x: l[0], y: l[1] };
-    let mut w = edge(a, b, p);
-    let mut i = 0;
-    while i + 17 < n {
-        let e = i + 18;
-        w += span(&l[i..e], p);
-        i += 16;
+    let last = corner(l, l.len() - 2);
+    let mut w = edge(last, corner(l, 0), p);
+    let mut k = 0;
+    while k + 1 < n {
+        let b = (a + k) / 8;
+        let e = part_end(a, b, n);
+        let from = 2 * k;
+        let to = 2 * e;
+        w += span(&l[from..to], t, b, p);
+        k = e - 1;
     }
-    w += span(&l[i..], p);
     w
 }
 
-pub fn winding(corners: &[f64], ends: &[usize], p: P) -> i64
-    requires { ⌜ Layout (now corners) (now ends) ⌝ }
+// The winding number, with the outline's heights.
+pub fn winding_by(corners: &[f64], ends: &[usize], t: &[f64], p: P) -> i64
+    requires { ⌜ Layout (now corners) (now ends) × Heights 0 (points (now corners)) (now t) ⌝ }
     ensures { λ r. ⌜ r ≡ winding (rings (now (corners .entry)) (now (ends .entry))) p ⌝ }
 {
     let mut w: i64 = 0;
@@ -113,11 +142,18 @@ pub fn winding(corners: &[f64], ends: &[usize], p: P) -> i64
     let mut k = 0;
     while k < ends.len() {
         let e = ends[k];
-        let s = 2 * a;
-        let t = 2 * e;
-        w += ring(&corners[s..t], p);
+        let from = 2 * a;
+        let to = 2 * e;
+        w += ring(&corners[from..to], t, a, p);
         a = e;
         k += 1;
     }
     w
+}
+
+pub fn winding(corners: &[f64], ends: &[usize], p: P) -> i64
+    requires { ⌜ Layout (now corners) (now ends) ⌝ }
+    ensures { λ r. ⌜ r ≡ winding (rings (now (corners .entry)) (now (ends .entry))) p ⌝ }
+{
+    winding_by(corners, ends, &corners[0..0], p)
 }

@@ -1,89 +1,18 @@
-use mathlib.Core.Path.{_≡_, sym, _∙_}
-use mathlib.Core.Bool.{true}
-use Prim.Native.Nat.{_+_, _-_, _/_, _≤_}
-use native.Mathlib.Omega.{arith}
-use lib.ListN.{length, drop, getD}
-use lib.IntN.{natAbs, _+ℤ_, +ℤ-idl}
+use mathlib.Core.Path.{_∙_}
 use mir.Syntax.{w64}
-use mir.Val.{toZ}
-use Rattle.geom.specs.Outline.{points, cut, rings, rising}
-use Rattle.geom.specs.OutlineLaws.{rising-turn}
-use Rattle.outlines.specs.Winding.{winding}
-use Rattle.outlines.proofs.Loops.{sum, rings-next, rings-end, part-even, part-small}
+use mir.ValLaws.{toZ-ofZ}
+use Rattle.geom.specs.Outline.{points}
+use Rattle.outlines.proofs.Blocks.{no-heights}
 use borrow.Author.Needs.{needs}
 use Rattle.outlines.proofs.winding.winding.Statement.{statement}
 use Rattle.outlines.proofs.winding.winding.Tie as tie
 
-abbrev Inv-loop : tie.InvT-loop
-Inv-loop corners ends p w₀ a₀ k₀ w a k = (k ≤ length ends) × (natAbs (toZ w64 w) ≤ a) × (rising a (drop k ends) (length corners / 2) ≡ true) × (toZ w64 w +ℤ winding (cut a (drop k ends) (points corners)) p ≡ winding (rings corners ends) p)
+winding-by-requires : tie.Need-winding-by-requires
+winding-by-requires c κs = (c .before .before .before .pre, no-heights (points (c .before .before .before .args .corners .now)))
 
-abbrev μ-loop : tie.MeasureT-loop
-μ-loop corners ends p w₀ a₀ k₀ w a k = length ends - k
-
-loop-holds : tie.Need-loop-holds Inv-loop μ-loop
-unfolding rings
-loop-holds c = (search needs, search needs, c .before .before .pre .rise, +ℤ-idl _)
-
-mul-s : tie.Need-mul-s Inv-loop μ-loop
-mul-s c =
-    let t = rising-turn (c .before .before .loop .a) (c .before .before .before .before .before .args .ends .now) (c .before .before .loop .k) (length (c .before .before .before .before .before .args .corners .now) / 2) (c .before .before .loop .inv .2) (c .before .loop-test .taken) in
-    omega (arith, t .from, t .to, c .before .before .before .before .before .pre .even)
-
-mul-t : tie.Need-mul-t Inv-loop μ-loop
-mul-t c =
-    let t = rising-turn (c .before .before .loop .a) (c .before .before .before .before .before .args .ends .now) (c .before .before .loop .k) (length (c .before .before .before .before .before .args .corners .now) / 2) (c .before .before .loop .inv .2) (c .before .loop-test .taken) in
-    omega (arith, t .from, t .to, c .before .before .before .before .before .pre .even)
-
-mul-ring : tie.Need-mul-ring Inv-loop μ-loop
-mul-ring c =
-    let t = rising-turn (c .before .before .loop .a) (c .before .before .before .before .before .args .ends .now) (c .before .before .loop .k) (length (c .before .before .before .before .before .args .corners .now) / 2) (c .before .before .loop .inv .2) (c .before .loop-test .taken) in
-    omega (arith, t .from, t .to, c .before .before .before .before .before .pre .even)
-
-sub-ring : tie.Need-sub-ring Inv-loop μ-loop
-sub-ring c =
-    let t = rising-turn (c .before .before .loop .a) (c .before .before .before .before .before .args .ends .now) (c .before .before .loop .k) (length (c .before .before .before .before .before .args .corners .now) / 2) (c .before .before .loop .inv .2) (c .before .loop-test .taken) in
-    omega (arith, t .from, t .to, c .before .before .before .before .before .pre .even)
-
-part-ring-start : tie.Need-part-ring-start Inv-loop μ-loop
-part-ring-start c =
-    let t = rising-turn (c .before .before .loop .a) (c .before .before .before .before .before .args .ends .now) (c .before .before .loop .k) (length (c .before .before .before .before .before .args .corners .now) / 2) (c .before .before .loop .inv .2) (c .before .loop-test .taken) in
-    omega (arith, t .from, t .to, c .before .before .before .before .before .pre .even)
-
-part-ring-end : tie.Need-part-ring-end Inv-loop μ-loop
-part-ring-end c =
-    let t = rising-turn (c .before .before .loop .a) (c .before .before .before .before .before .args .ends .now) (c .before .before .loop .k) (length (c .before .before .before .before .before .args .corners .now) / 2) (c .before .before .loop .inv .2) (c .before .loop-test .taken) in
-    omega (arith, t .from, t .to, c .before .before .before .before .before .pre .even)
-
-ring-requires : tie.Need-ring-requires Inv-loop μ-loop
-ring-requires c κs =
-    let t = rising-turn (c .before .before .before .loop .a) (c .before .before .before .before .before .before .args .ends .now) (c .before .before .before .loop .k) (length (c .before .before .before .before .before .before .args .corners .now) / 2) (c .before .before .before .loop .inv .2) (c .before .before .loop-test .taken) in
-    part-even (c .before .before .before .before .before .before .args .p) (c .before .before .before .before .before .before .args .ends .now) (c .before .before .before .before .before .before .args .corners .now) (c .before .before .before .loop .a) (getD (c .before .before .before .before .before .before .args .ends .now) (c .before .before .before .loop .k) 0) (t .from) (omega (arith, t .to))
-
-add-w : tie.Need-add-w Inv-loop μ-loop
-add-w c =
-    let a = c .before .before .before .before .before .before .before .args in
-    let l = c .before .before .before .before .loop in
-    let e = getD (a .ends .now) (l .k) 0 in
-    let t = rising-turn (l .a) (a .ends .now) (l .k) (length (a .corners .now) / 2) (l .inv .2) (c .before .before .before .loop-test .taken) in
-    let k : natAbs (c .ring .result) ≤ e - l .a = rw (c .ring .ensures) (part-small (a .p) (a .ends .now) (a .corners .now) (l .a) e) in
-    sum (l .w) (c .ring .result) (length (a .corners .now) / 2) (omega (arith, t .from, t .to)) (omega arith) .fits
-
-loop-again : tie.Need-loop-again Inv-loop μ-loop
-loop-again c =
-    let a = c .before .before .before .before .before .before .before .args in
-    let l = c .before .before .before .before .loop in
-    let e = getD (a .ends .now) (l .k) 0 in
-    let t = rising-turn (l .a) (a .ends .now) (l .k) (length (a .corners .now) / 2) (l .inv .2) (c .before .before .before .loop-test .taken) in
-    let k : natAbs (c .ring .result) ≤ e - l .a = rw (c .ring .ensures) (part-small (a .p) (a .ends .now) (a .corners .now) (l .a) e) in
-    let s = sum (l .w) (c .ring .result) e (omega (arith, t .from)) (omega (arith, t .to)) in
-    (omega arith, s .small, t .rise, rw (s .is, c .ring .ensures) (sym (rings-next (a .p) (a .ends .now) (a .corners .now) (toZ w64 (l .w)) (l .a) (l .k) (omega arith)) ∙ l .inv .3))
-
-returns : tie.Need-returns Inv-loop μ-loop
-returns c =
-    let a = c .before .before .before .before .args in
-    let l = c .before .loop in
-    sym (rings-end (a .p) (a .ends .now) (a .corners .now) (toZ w64 (l .w)) (l .a) (l .k) (omega arith)) ∙ l .inv .3
+returns : tie.Need-returns
+returns c = toZ-ofZ w64 (c .winding-by .result) (record { sfits = c .winding-by .ok }) ∙ c .winding-by .ensures
 
 pub winding-spec : {M : Type 1} → statement M
 winding-spec =
-    tie.close (tie.spec Inv-loop μ-loop loop-holds (λ c. search needs) (λ c. search needs) mul-s mul-t mul-ring sub-ring part-ring-start part-ring-end ring-requires add-w (λ c. search needs) (λ c. search needs) loop-again returns)
+    tie.close (tie.spec (λ c. search needs) (λ c. search needs) (λ c. search needs) winding-by-requires returns)

@@ -1,0 +1,85 @@
+// The heights of an outline: for each eight sides the least and the greatest y of their corners, so that a winding number can
+// pass over most of them. Worked out once where many points are asked about.
+ghost use mathlib.Core.Path.{_≡_};
+ghost use mathlib.Core.Bool.{true, false};
+ghost use Prim.Native.Nat.{_+_, _<_, min};
+ghost use lib.Ieee.{Float, lt, le};
+ghost use Rattle.seqs.specs.Lists.{All};
+ghost use Rattle.geom.specs.Outline.{points};
+ghost use Rattle.outlines.specs.Heights.{Lies, Heights};
+
+pub struct Height {
+    pub lo: f64,
+    pub hi: f64,
+}
+
+// What is below both, or a NaN, which nothing is below.
+fn lower(lo: f64, y: f64) -> f64
+    ensures { λ r. ⌜ ((z : Float) → lt z r ≡ true → (lt z lo ≡ true) × (le y z ≡ false)) ⌝ }
+{
+    if lo <= y {
+        return lo;
+    }
+    if y <= lo {
+        return y;
+    }
+    0.0 / 0.0
+}
+
+// What is above both, or a NaN, which nothing is above.
+fn higher(hi: f64, y: f64) -> f64
+    ensures { λ r. ⌜ ((z : Float) → le r z ≡ true → (le hi z ≡ true) × (le y z ≡ true)) ⌝ }
+{
+    if y <= hi {
+        return hi;
+    }
+    if hi <= y {
+        return y;
+    }
+    0.0 / 0.0
+}
+
+fn height_of(l: &[f64]) -> Height
+    ensures { λ r. ⌜ All (λ a. Lies (r .lo) (r .hi) (a .y)) (points (now (l .entry))) ⌝ }
+{
+    let mut lo = 1.0 / 0.0;
+    let mut hi = -1.0 / 0.0;
+    let mut i = 0;
+    while i + 1 < l.len() {
+        lo = lower(lo, l[i + 1]);
+        hi = higher(hi, l[i + 1]);
+        i += 2;
+    }
+    Height { lo: lo, hi: hi }
+}
+
+// Where the corners of a block that starts at k end, of n.
+fn block_end(k: usize, n: usize) -> usize
+    requires { ⌜ k < n ⌝ }
+    ensures { λ r. ⌜ r ≡ min (k + 9) n ⌝ }
+{
+    if n - k < 9 {
+        return n;
+    }
+    k + 9
+}
+
+// The heights of the blocks to the front of t, as far as it goes.
+pub fn heights(corners: &[f64], t: &mut [f64])
+    ensures { λ _. ⌜ Heights 0 (points (now (corners .entry))) (now (t .exit)) ⌝ }
+{
+    let n = corners.len() / 2;
+    let mut k = 0;
+    while k < n {
+        let to = k / 4;
+        if t.len() <= to + 1 {
+            return;
+        }
+        let s = 2 * k;
+        let e = 2 * block_end(k, n);
+        let h = height_of(&corners[s..e]);
+        t[to] = h.lo;
+        t[to + 1] = h.hi;
+        k += 8;
+    }
+}
