@@ -8,6 +8,9 @@ ghost use Rattle.seqs.specs.Lists.{All};
 ghost use Rattle.geom.specs.Outline.{points};
 ghost use Rattle.outlines.specs.Heights.{Lies, Heights};
 
+// Enough for as many corners as document 01 has.
+pub const HEIGHTS: usize = 256;
+
 pub struct Height {
     pub lo: f64,
     pub hi: f64,

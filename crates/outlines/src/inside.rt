@@ -1,7 +1,7 @@
 // Whether points lie inside an outline.
 ghost use mathlib.Core.Path.{_≡_};
-ghost use Rattle.geom.specs.Outline.{points, rings, Layout};
-ghost use Rattle.outlines.specs.Heights.{Heights};
+ghost use Rattle.geom.specs.Outline.{rings, Layout};
+ghost use Rattle.outlines.specs.Heights.{Measured};
 ghost use Rattle.outlines.specs.Inside.{pointInside, segmentInside};
 use crate::rule::FillRule;
 use crate::winding::winding;
@@ -19,7 +19,7 @@ pub fn point_inside(corners: &[f64], ends: &[usize], rule: FillRule, p: P) -> bo
 
 // The same, with the outline's heights.
 pub fn point_inside_by(corners: &[f64], ends: &[usize], t: &[f64], rule: FillRule, p: P) -> bool
-    requires { ⌜ Layout (now corners) (now ends) × Heights 0 (points (now corners)) (now t) ⌝ }
+    requires { ⌜ Measured (now corners) (now ends) (now t) ⌝ }
     ensures { λ r. ⌜ r ≡ pointInside (rings (now (corners .entry)) (now (ends .entry))) rule p ⌝ }
 {
     rule.inside(winding_by(corners, ends, t, p))

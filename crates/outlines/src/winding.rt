@@ -6,7 +6,7 @@ ghost use lib.ListN.{length};
 ghost use Rattle.geom.specs.Outline.{points, rings, Layout};
 ghost use Rattle.outlines.specs.Winding.{edge, ring, winding};
 ghost use Rattle.outlines.specs.Runs.{chain, oneSide};
-ghost use Rattle.outlines.specs.Heights.{Block, Heights};
+ghost use Rattle.outlines.specs.Heights.{Block, Heights, Measured};
 use geom::P;
 use geom::cross;
 use geom::sewing::corner;
@@ -134,7 +134,7 @@ fn ring(l: &[f64], t: &[f64], a: usize, p: P) -> i64
 
 // The winding number, with the outline's heights.
 pub fn winding_by(corners: &[f64], ends: &[usize], t: &[f64], p: P) -> i64
-    requires { ⌜ Layout (now corners) (now ends) × Heights 0 (points (now corners)) (now t) ⌝ }
+    requires { ⌜ Measured (now corners) (now ends) (now t) ⌝ }
     ensures { λ r. ⌜ r ≡ winding (rings (now (corners .entry)) (now (ends .entry))) p ⌝ }
 {
     let mut w: i64 = 0;

@@ -7,6 +7,7 @@ ghost use lib.ListN.{length};
 ghost use Rattle.seqs.specs.Lists.{All};
 ghost use Rattle.seqs.specs.Slices.{Wrote};
 ghost use Rattle.geom.specs.Outline.{rings, Layout};
+ghost use Rattle.outlines.specs.Heights.{Measured};
 ghost use Rattle.rules.specs.Fill.{overlap, linkEnds, linkInside, connects, begun};
 ghost use Rattle.rules.specs.Rise.{Rise};
 ghost use Rattle.sections.specs.Mark.{pieceIn, entryIn, Ranges, Within, Low, joinsAt, markAt, afterAt, flatMark, rowMarks, rowNew, flatMarks, rowEnd, rowsIn, markedIn};
@@ -20,7 +21,9 @@ use geom::P;
 use geom::steps::along;
 use leaves::smaller;
 use outlines::FillRule;
-use outlines::inside::point_inside;
+use outlines::heights::HEIGHTS;
+use outlines::heights::heights;
+use outlines::inside::point_inside_by;
 use rules::Entry;
 use rules::Piece;
 use rules::Settings;
@@ -122,34 +125,36 @@ fn link_ends(o: Entry, next: Piece) -> Link
 fn link_inside(
     corners: &[f64],
     ends: &[usize],
+    h: &[f64],
     rule: FillRule,
     g: Settings,
     link: Link,
     k: u64,
 ) -> bool
-    requires { ⌜ Layout (now corners) (now ends) ⌝ }
+    requires { ⌜ Measured (now corners) (now ends) (now h) ⌝ }
     ensures { λ r. ⌜ r ≡ linkInside (rings (now (corners .entry)) (now (ends .entry))) rule g (link .from, link .to) k ⌝ }
 {
     let q = along(link.from, link.to, 4, k).rotate(g.cosine, g.sine);
-    point_inside(corners, ends, rule, q)
+    point_inside_by(corners, ends, h, rule, q)
 }
 
 // Three points of the link are inside.
 fn connects(
     corners: &[f64],
     ends: &[usize],
+    h: &[f64],
     rule: FillRule,
     g: Settings,
     o: Entry,
     next: Piece,
 ) -> bool
-    requires { ⌜ Layout (now corners) (now ends) ⌝ }
+    requires { ⌜ Measured (now corners) (now ends) (now h) ⌝ }
     ensures { λ r. ⌜ r ≡ connects (rings (now (corners .entry)) (now (ends .entry))) rule g o next ⌝ }
 {
     let link = link_ends(o, next);
-    if link_inside(corners, ends, rule, g, link, 1) {
-        if link_inside(corners, ends, rule, g, link, 2) {
-            return link_inside(corners, ends, rule, g, link, 3);
+    if link_inside(corners, ends, h, rule, g, link, 1) {
+        if link_inside(corners, ends, h, rule, g, link, 2) {
+            return link_inside(corners, ends, h, rule, g, link, 3);
         }
     }
     false
@@ -165,13 +170,14 @@ pub struct Fill {
 fn joins(
     corners: &[f64],
     ends: &[usize],
+    h: &[f64],
     f: Fill,
     pieces: &[f64],
     wholes: &[usize],
     s: Row,
     j: usize,
 ) -> Found
-    requires { ⌜ Layout (now corners) (now ends) × Ranges s (now pieces) (now wholes) × (j < s .r1) × (s .r0 ≤ j) × Rising (now pieces) (s .b0) (s .r0) × Rising (now pieces) (s .r0) (s .r1) ⌝ }
+    requires { ⌜ Measured (now corners) (now ends) (now h) × Ranges s (now pieces) (now wholes) × (j < s .r1) × (s .r0 ≤ j) × Rising (now pieces) (s .b0) (s .r0) × Rising (now pieces) (s .r0) (s .r1) ⌝ }
     ensures { λ r. ⌜ (r ≡ joinsAt (rings (now (corners .entry)) (now (ends .entry))) (f .rule) (f .settings) (now (pieces .entry)) (now (wholes .entry)) s j) × Within r (s .b0) (s .r0) ⌝ }
 {
     let p = piece_at(pieces, j);
@@ -185,7 +191,7 @@ fn joins(
         return Found::Nothing;
     }
     let rule = f.rule;
-    if connects(corners, ends, rule, f.settings, o, p) {
+    if connects(corners, ends, h, rule, f.settings, o, p) {
         return Found::At(t);
     }
     Found::Nothing
@@ -195,6 +201,7 @@ fn joins(
 fn mark_at(
     corners: &[f64],
     ends: &[usize],
+    h: &[f64],
     f: Fill,
     pieces: &[f64],
     wholes: &[usize],
@@ -202,10 +209,10 @@ fn mark_at(
     new: usize,
     j: usize,
 ) -> Mark
-    requires { ⌜ Layout (now corners) (now ends) × Ranges s (now pieces) (now wholes) × (j < s .r1) × Low (s .n) (s .b0) (s .r0) (now wholes) 1000000 × (s .r0 ≤ j) × Rising (now pieces) (s .b0) (s .r0) × Rising (now pieces) (s .r0) (s .r1) ⌝ }
+    requires { ⌜ Measured (now corners) (now ends) (now h) × Ranges s (now pieces) (now wholes) × (j < s .r1) × Low (s .n) (s .b0) (s .r0) (now wholes) 1000000 × (s .r0 ≤ j) × Rising (now pieces) (s .b0) (s .r0) × Rising (now pieces) (s .r0) (s .r1) ⌝ }
     ensures { λ r. ⌜ (r ≡ markAt (rings (now (corners .entry)) (now (ends .entry))) (f .rule) (f .settings) (now (pieces .entry)) (now (wholes .entry)) s new j) ⌝ }
 {
-    let o = joins(corners, ends, f, pieces, wholes, s, j);
+    let o = joins(corners, ends, h, f, pieces, wholes, s, j);
     let Found::At(t) = o else {
         return Mark {
             section: new,
@@ -241,19 +248,20 @@ fn put_mark(wholes: &mut [usize], k: usize, m: Mark)
 fn mark_row(
     corners: &[f64],
     ends: &[usize],
+    h: &[f64],
     f: Fill,
     pieces: &[f64],
     wholes: &mut [usize],
     s: Row,
     new: usize,
 ) -> usize
-    requires { ⌜ Layout (now corners) (now ends) × Ranges s (now pieces) (now wholes) × Low (s .n) (s .b0) (s .r0) (now wholes) 1000000 × (s .n ≤ 10000000) × (new ≤ s .r0) × Rising (now pieces) (s .b0) (s .r0) × Rising (now pieces) (s .r0) (s .r1) ⌝ }
+    requires { ⌜ Measured (now corners) (now ends) (now h) × Ranges s (now pieces) (now wholes) × Low (s .n) (s .b0) (s .r0) (now wholes) 1000000 × (s .n ≤ 10000000) × (new ≤ s .r0) × Rising (now pieces) (s .b0) (s .r0) × Rising (now pieces) (s .r0) (s .r1) ⌝ }
     ensures { λ r. ⌜ Wrote (now (wholes .entry)) (now (wholes .exit)) (s .n + 2 * s .r0) (rowMarks (rings (now (corners .entry)) (now (ends .entry))) (f .rule) (f .settings) (now (pieces .entry)) (now (wholes .entry)) s new (s .r0) (s .r1 - s .r0)) × (r ≡ rowNew (rings (now (corners .entry)) (now (ends .entry))) (f .rule) (f .settings) (now (pieces .entry)) (now (wholes .entry)) s new (s .r0) (s .r1 - s .r0)) × (r ≤ s .r1) ⌝ }
 {
     let mut j = s.r0;
     let mut section = new;
     while j < s.r1 {
-        let m = mark_at(corners, ends, f, pieces, wholes, s, section, j);
+        let m = mark_at(corners, ends, h, f, pieces, wholes, s, section, j);
         put_mark(wholes, s.n + 2 * j, m);
         section = after(section, m);
         j += 1;
@@ -276,17 +284,18 @@ fn row_end(wholes: &[usize], n: usize, i: usize, r: usize) -> usize
     j
 }
 
-// The marks of all pieces, row by row, of rows that rise; the number of sections. Pieces of later rows get none.
-pub fn mark_all(
+// The marks of all pieces, row by row.
+fn mark_rows(
     corners: &[f64],
     ends: &[usize],
+    h: &[f64],
     f: Fill,
     pieces: &[f64],
     wholes: &mut [usize],
     n: usize,
     rows: usize,
 ) -> usize
-    requires { ⌜ Layout (now corners) (now ends) × (3 * n ≤ length (now pieces)) × (3 * n ≤ length (now wholes)) × (n ≤ 10000000) × (rows ≤ 4096) × All Rise (rowsIn (now pieces) (now wholes) n 0 0 rows) ⌝ }
+    requires { ⌜ Measured (now corners) (now ends) (now h) × (3 * n ≤ length (now pieces)) × (3 * n ≤ length (now wholes)) × (n ≤ 10000000) × (rows ≤ 4096) × All Rise (rowsIn (now pieces) (now wholes) n 0 0 rows) ⌝ }
     ensures { λ r. ⌜ Wrote (now (wholes .entry)) (now (wholes .exit)) n (flatMarks (markedIn (rings (now (corners .entry)) (now (ends .entry))) (f .rule) (f .settings) (now (pieces .entry)) (now (wholes .entry)) n rows)) × (r ≡ begun (markedIn (rings (now (corners .entry)) (now (ends .entry))) (f .rule) (f .settings) (now (pieces .entry)) (now (wholes .entry)) n rows)) × (r ≤ n) ⌝ }
 {
     let mut b0 = 0;
@@ -301,10 +310,28 @@ pub fn mark_all(
             r0: r0,
             r1: r1,
         };
-        section = mark_row(corners, ends, f, pieces, wholes, s, section);
+        section = mark_row(corners, ends, h, f, pieces, wholes, s, section);
         b0 = r0;
         r0 = r1;
         r += 1;
     }
     section
+}
+
+// The marks of all pieces, row by row, of rows that rise; the number of sections. Pieces of later rows get none.
+pub fn mark_all(
+    corners: &[f64],
+    ends: &[usize],
+    f: Fill,
+    pieces: &[f64],
+    wholes: &mut [usize],
+    n: usize,
+    rows: usize,
+) -> usize
+    requires { ⌜ Layout (now corners) (now ends) × (3 * n ≤ length (now pieces)) × (3 * n ≤ length (now wholes)) × (n ≤ 10000000) × (rows ≤ 4096) × All Rise (rowsIn (now pieces) (now wholes) n 0 0 rows) ⌝ }
+    ensures { λ r. ⌜ Wrote (now (wholes .entry)) (now (wholes .exit)) n (flatMarks (markedIn (rings (now (corners .entry)) (now (ends .entry))) (f .rule) (f .settings) (now (pieces .entry)) (now (wholes .entry)) n rows)) × (r ≡ begun (markedIn (rings (now (corners .entry)) (now (ends .entry))) (f .rule) (f .settings) (now (pieces .entry)) (now (wholes .entry)) n rows)) × (r ≤ n) ⌝ }
+{
+    let mut h = [0.0f64; HEIGHTS];
+    heights(corners, &mut h);
+    mark_rows(corners, ends, &h, f, pieces, wholes, n, rows)
 }

@@ -6,7 +6,7 @@ use Rattle.sections.proofs.link_inside.Tie as tie
 
 returns : tie.Need-returns
 unfolding linkInside
-returns c = c .point-inside .ensures ∙ rw (c .before .rotate .ensures, c .before .before .along .ensures)
+returns c = c .point-inside-by .ensures ∙ rw (c .before .rotate .ensures, c .before .before .along .ensures)
 
 pub link-inside-spec : {M : Type 1} → statement M
 link-inside-spec =

@@ -8,7 +8,7 @@ use Rattle.outlines.proofs.winding.winding.Statement.{statement}
 use Rattle.outlines.proofs.winding.winding.Tie as tie
 
 winding-by-requires : tie.Need-winding-by-requires
-winding-by-requires c κs = (c .before .before .before .pre, no-heights (points (c .before .before .before .args .corners .now)))
+winding-by-requires c κs = record { layout = c .before .before .before .pre; heights = no-heights (points (c .before .before .before .args .corners .now)) }
 
 returns : tie.Need-returns
 returns c = toZ-ofZ w64 (c .winding-by .result) (record { sfits = c .winding-by .ok }) ∙ c .winding-by .ensures

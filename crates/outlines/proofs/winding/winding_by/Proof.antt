@@ -23,43 +23,43 @@ abbrev μ-loop : tie.MeasureT-loop
 
 loop-holds : tie.Need-loop-holds Inv-loop μ-loop
 unfolding rings
-loop-holds c = (search needs, search needs, c .before .before .before .pre .0 .rise, +ℤ-idl _)
+loop-holds c = (search needs, search needs, c .before .before .before .pre .layout .rise, +ℤ-idl _)
 
 mul-from : tie.Need-mul-from Inv-loop μ-loop
 mul-from c =
     let t = rising-turn (c .before .before .loop .a) (c .before .before .before .before .before .before .args .ends .now) (c .before .before .loop .k) (length (c .before .before .before .before .before .before .args .corners .now) / 2) (c .before .before .loop .inv .2) (c .before .loop-test .taken) in
-    omega (arith, t .from, t .to, c .before .before .before .before .before .before .pre .0 .even)
+    omega (arith, t .from, t .to, c .before .before .before .before .before .before .pre .layout .even)
 
 mul-to : tie.Need-mul-to Inv-loop μ-loop
 mul-to c =
     let t = rising-turn (c .before .before .loop .a) (c .before .before .before .before .before .before .args .ends .now) (c .before .before .loop .k) (length (c .before .before .before .before .before .before .args .corners .now) / 2) (c .before .before .loop .inv .2) (c .before .loop-test .taken) in
-    omega (arith, t .from, t .to, c .before .before .before .before .before .before .pre .0 .even)
+    omega (arith, t .from, t .to, c .before .before .before .before .before .before .pre .layout .even)
 
 mul-ring : tie.Need-mul-ring Inv-loop μ-loop
 mul-ring c =
     let t = rising-turn (c .before .before .loop .a) (c .before .before .before .before .before .before .args .ends .now) (c .before .before .loop .k) (length (c .before .before .before .before .before .before .args .corners .now) / 2) (c .before .before .loop .inv .2) (c .before .loop-test .taken) in
-    omega (arith, t .from, t .to, c .before .before .before .before .before .before .pre .0 .even)
+    omega (arith, t .from, t .to, c .before .before .before .before .before .before .pre .layout .even)
 
 sub-ring : tie.Need-sub-ring Inv-loop μ-loop
 sub-ring c =
     let t = rising-turn (c .before .before .loop .a) (c .before .before .before .before .before .before .args .ends .now) (c .before .before .loop .k) (length (c .before .before .before .before .before .before .args .corners .now) / 2) (c .before .before .loop .inv .2) (c .before .loop-test .taken) in
-    omega (arith, t .from, t .to, c .before .before .before .before .before .before .pre .0 .even)
+    omega (arith, t .from, t .to, c .before .before .before .before .before .before .pre .layout .even)
 
 part-ring-start : tie.Need-part-ring-start Inv-loop μ-loop
 part-ring-start c =
     let t = rising-turn (c .before .before .loop .a) (c .before .before .before .before .before .before .args .ends .now) (c .before .before .loop .k) (length (c .before .before .before .before .before .before .args .corners .now) / 2) (c .before .before .loop .inv .2) (c .before .loop-test .taken) in
-    omega (arith, t .from, t .to, c .before .before .before .before .before .before .pre .0 .even)
+    omega (arith, t .from, t .to, c .before .before .before .before .before .before .pre .layout .even)
 
 part-ring-end : tie.Need-part-ring-end Inv-loop μ-loop
 part-ring-end c =
     let t = rising-turn (c .before .before .loop .a) (c .before .before .before .before .before .before .args .ends .now) (c .before .before .loop .k) (length (c .before .before .before .before .before .before .args .corners .now) / 2) (c .before .before .loop .inv .2) (c .before .loop-test .taken) in
-    omega (arith, t .from, t .to, c .before .before .before .before .before .before .pre .0 .even)
+    omega (arith, t .from, t .to, c .before .before .before .before .before .before .pre .layout .even)
 
 ring-requires : tie.Need-ring-requires Inv-loop μ-loop
 ring-requires c κs =
     let e = getD (c .before .before .before .before .before .before .before .args .ends .now) (c .before .before .before .loop .k) 0 in
     let t = rising-turn (c .before .before .before .loop .a) (c .before .before .before .before .before .before .before .args .ends .now) (c .before .before .before .loop .k) (length (c .before .before .before .before .before .before .before .args .corners .now) / 2) (c .before .before .before .loop .inv .2) (c .before .before .loop-test .taken) in
-    (part-even (c .before .before .before .before .before .before .before .args .p) (c .before .before .before .before .before .before .before .args .ends .now) (c .before .before .before .before .before .before .before .args .corners .now) (c .before .before .before .loop .a) e (t .from) (omega (arith, t .to)), omega (arith, t .from, t .to, length-take (2 * e - 2 * c .before .before .before .loop .a) (drop (2 * c .before .before .before .loop .a) (c .before .before .before .before .before .before .before .args .corners .now))), ring-heights (c .before .before .before .loop .a) e (c .before .before .before .before .before .before .before .args .corners .now) (c .before .before .before .before .before .before .before .args .t .now) (c .before .before .before .before .before .before .before .pre .1))
+    (part-even (c .before .before .before .before .before .before .before .args .p) (c .before .before .before .before .before .before .before .args .ends .now) (c .before .before .before .before .before .before .before .args .corners .now) (c .before .before .before .loop .a) e (t .from) (omega (arith, t .to)), omega (arith, t .from, t .to, length-take (2 * e - 2 * c .before .before .before .loop .a) (drop (2 * c .before .before .before .loop .a) (c .before .before .before .before .before .before .before .args .corners .now))), ring-heights (c .before .before .before .loop .a) e (c .before .before .before .before .before .before .before .args .corners .now) (c .before .before .before .before .before .before .before .args .t .now) (c .before .before .before .before .before .before .before .pre .heights))
 
 add-w : tie.Need-add-w Inv-loop μ-loop
 add-w c =
