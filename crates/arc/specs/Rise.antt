@@ -13,7 +13,7 @@ use Rattle.numbers.specs.Value.{Within}
 use Rattle.numbers.specs.Order.{finite, magnitude}
 use Rattle.numbers.specs.Laws.{le-trans, add-up, add-fits, sum-up, square-up, root-up, holds, within-sub, within-le, within-real, within-finite}
 use Rattle.seqs.specs.Lists.{All}
-use Rattle.seqs.specs.Tests.{and-both}
+use Rattle.seqs.specs.Tests.{is-true, and-both}
 use Rattle.geom.specs.declared.point.P.{P}
 use Rattle.geom.specs.Point.{len, dist}
 use Rattle.geom.specs.Outline.{points}
@@ -51,10 +51,6 @@ chained s l c zero j t h k e = first s l c j t k e
 chained s l c (suc i) zero t h k e = absurd (omega arith)
 chained s [] c (suc i) (suc j) t h k e = absurd (omega arith)
 chained s (x ∷ l) c (suc i) (suc j) t h k e = chained x l (c .1) i j t (omega arith) (omega arith) e
-
-is-true : (b : Bool) → T b → b ≡ true
-is-true true t = refl
-is-true false t = absurd t
 
 chain-rising : (s : Float) (l : List Float) → Chain s l → Rising (s ∷ l)
 chain-rising s l c = record { rises = λ i j t h k e. is-true _ (chained s l c i j t h k (holds e)) }

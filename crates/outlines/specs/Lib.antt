@@ -4,4 +4,5 @@ pub mod Runs
 pub mod Heights
 pub mod Inside
 pub mod WindingLaws
+pub mod LeftLaws
 pub mod Ks

@@ -1,19 +1,21 @@
-// The heights of an outline: for each eight sides the least and the greatest y of their corners, so that a winding number can
-// pass over most of them. Worked out once where many points are asked about.
+// The heights of an outline: for each eight sides the least and the greatest y of their corners, and their greatest x, so that
+// a winding number can pass over most of them. Worked out once where many points are asked about.
 ghost use mathlib.Core.Path.{_≡_};
 ghost use mathlib.Core.Bool.{true, false};
 ghost use Prim.Native.Nat.{_+_, _<_, min};
 ghost use lib.Ieee.{Float, lt, le};
+ghost use Rattle.numbers.specs.Value.{Within};
 ghost use Rattle.seqs.specs.Lists.{All};
 ghost use Rattle.geom.specs.Outline.{points};
-ghost use Rattle.outlines.specs.Heights.{Lies, Heights};
+ghost use Rattle.outlines.specs.Heights.{Left, Lies, Heights};
 
 // Enough for as many corners as document 01 has.
-pub const HEIGHTS: usize = 256;
+pub const HEIGHTS: usize = 384;
 
 pub struct Height {
     pub lo: f64,
     pub hi: f64,
+    pub right: f64,
 }
 
 // What is below both, or a NaN, which nothing is below.
@@ -42,18 +44,51 @@ fn higher(hi: f64, y: f64) -> f64
     0.0 / 0.0
 }
 
+// Whether x is small enough for the differences and products of a winding number.
+pub fn near(x: f64) -> bool
+    ensures { λ r. ⌜ (r ≡ true → Within 20 x) ⌝ }
+{
+    if -1000000.0 <= x {
+        return x <= 1000000.0;
+    }
+    false
+}
+
+// What is right of both, or a NaN, which nothing is right of.
+fn righter(right: f64, x: f64, y: f64) -> f64
+    ensures { λ r. ⌜ ((z : Float) → lt r z ≡ true → (lt right z ≡ true) × Left x y z) ⌝ }
+{
+    if near(x) {
+        if near(y) {
+            if x <= right {
+                return right;
+            }
+            if right <= x {
+                return x;
+            }
+        }
+    }
+    0.0 / 0.0
+}
+
 fn height_of(l: &[f64]) -> Height
-    ensures { λ r. ⌜ All (λ a. Lies (r .lo) (r .hi) (a .y)) (points (now (l .entry))) ⌝ }
+    ensures { λ r. ⌜ All (Lies (r .lo) (r .hi) (r .right)) (points (now (l .entry))) ⌝ }
 {
     let mut lo = 1.0 / 0.0;
     let mut hi = -1.0 / 0.0;
+    let mut right = -1.0 / 0.0;
     let mut i = 0;
     while i + 1 < l.len() {
         lo = lower(lo, l[i + 1]);
         hi = higher(hi, l[i + 1]);
+        right = righter(right, l[i], l[i + 1]);
         i += 2;
     }
-    Height { lo: lo, hi: hi }
+    Height {
+        lo: lo,
+        hi: hi,
+        right: right,
+    }
 }
 
 // Where the corners of a block that starts at k end, of n.
@@ -74,8 +109,8 @@ pub fn heights(corners: &[f64], t: &mut [f64])
     let n = corners.len() / 2;
     let mut k = 0;
     while k < n {
-        let to = k / 4;
-        if t.len() <= to + 1 {
+        let to = 3 * (k / 8);
+        if t.len() <= to + 2 {
             return;
         }
         let s = 2 * k;
@@ -83,6 +118,7 @@ pub fn heights(corners: &[f64], t: &mut [f64])
         let h = height_of(&corners[s..e]);
         t[to] = h.lo;
         t[to + 1] = h.hi;
+        t[to + 2] = h.right;
         k += 8;
     }
 }

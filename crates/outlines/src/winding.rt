@@ -3,10 +3,14 @@ ghost use mathlib.Core.Path.{_≡_};
 ghost use mathlib.Core.Bool.{true};
 ghost use Prim.Native.Nat.{_+_, _-_, _*_, _%_, _^_, _<_, min};
 ghost use lib.ListN.{length};
+ghost use lib.IntN.{pos};
+ghost use lib.Ieee.{lt};
+ghost use Rattle.numbers.specs.Value.{Within};
 ghost use Rattle.geom.specs.Outline.{points, rings, Layout};
 ghost use Rattle.outlines.specs.Winding.{edge, ring, winding};
 ghost use Rattle.outlines.specs.Runs.{chain, oneSide};
 ghost use Rattle.outlines.specs.Heights.{Block, Heights, Measured};
+use crate::heights::near;
 use geom::P;
 use geom::cross;
 use geom::sewing::corner;
@@ -73,25 +77,41 @@ fn one_side(l: &[f64], y: f64) -> bool
     c == n / 2
 }
 
-// Whether the sides between the corners of l, which are of block b, add nothing: by the block's heights where t has them.
-fn passed(l: &[f64], t: &[f64], b: usize, y: f64) -> bool
-    requires { ⌜ Block b (points (now l)) (now t) ⌝ }
-    ensures { λ r. ⌜ (r ≡ true → oneSide y (points (now (l .entry))) ≡ true) ⌝ }
+// Whether p lies right of the corners whose greatest x is `right`.
+fn right_of(right: f64, p: P) -> bool
+    ensures { λ r. ⌜ (r ≡ true → (lt right (p .x) ≡ true) × Within 20 (p .x) × Within 20 (p .y)) ⌝ }
 {
-    if b < t.len() / 2 {
-        if y < t[2 * b] {
+    if right < p.x {
+        if near(p.x) {
+            return near(p.y);
+        }
+    }
+    false
+}
+
+// Whether the sides between the corners of l, which are of block b, add nothing: by the block's heights where t has them.
+fn passed(l: &[f64], t: &[f64], b: usize, p: P) -> bool
+    requires { ⌜ Block b (points (now l)) (now t) ⌝ }
+    ensures { λ r. ⌜ (r ≡ true → chain p (points (now (l .entry))) ≡ pos 0) ⌝ }
+{
+    if b < t.len() / 3 {
+        let k = 3 * b;
+        if p.y < t[k] {
             return true;
         }
-        return t[2 * b + 1] <= y;
+        if t[k + 1] <= p.y {
+            return true;
+        }
+        return right_of(t[k + 2], p);
     }
-    one_side(l, y)
+    one_side(l, p.y)
 }
 
 fn span(l: &[f64], t: &[f64], b: usize, p: P) -> i64
     requires { ⌜ Block b (points (now l)) (now t) ⌝ }
     ensures { λ r. ⌜ r ≡ chain p (points (now (l .entry))) ⌝ }
 {
-    if passed(l, t, b, p.y) {
+    if passed(l, t, b, p) {
         return 0;
     }
     chain(l, p)

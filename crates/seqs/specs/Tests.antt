@@ -2,6 +2,7 @@
 use mathlib.Core.Path.{_≡_, refl, sym, _∙_}
 use mathlib.Core.Bool.{Bool, true, false, _&&_, cond, true≢false}
 use mathlib.Core.Logic.{_⊎_, inl, inr}
+use lib.Dec.{T}
 
 pub either : (b : Bool) → (b ≡ true) ⊎ (b ≡ false)
 either true = inl refl
@@ -10,6 +11,10 @@ either false = inr refl
 -- not both
 pub clash {ℓ} : {X : Type ℓ} {b : Bool} → b ≡ true → b ≡ false → X
 clash t f = absurd (true≢false (sym t ∙ f))
+
+pub is-true : (b : Bool) → T b → b ≡ true
+is-true true h = refl
+is-true false h = absurd h
 
 -- a test that would be false if it were true is false
 pub refute : (b : Bool) → (b ≡ true → b ≡ false) → b ≡ false

@@ -1,12 +1,10 @@
-use Rattle.geom.specs.Outline.{points}
 use mathlib.Core.Path.{sym}
-use Rattle.outlines.specs.WindingLaws.{one-side-adds}
 use borrow.Author.Needs.{needs}
 use Rattle.outlines.proofs.winding.span.Statement.{statement}
 use Rattle.outlines.proofs.winding.span.Tie as tie
 
 returns : tie.Need-returns
-returns c = sym (one-side-adds (c .before .before .before .before .args .p) (points (c .before .before .before .before .args .l .now)) (c .before .passed .ensures (c .if1 .taken)))
+returns c = sym (c .before .passed .ensures (c .if1 .taken))
 
 pub span-spec : {M : Type 1} → statement M
 span-spec =
