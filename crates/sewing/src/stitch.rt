@@ -1,15 +1,12 @@
 // From the pen to a target: how often the way is cut, counted and written.
 ghost use mathlib.Core.Path.{_≡_};
 ghost use Prim.Native.Nat.{_+_, _*_, _<_, _≤_, _^_};
-ghost use mathlib.Core.Bool.{_&&_};
+ghost use mathlib.Core.Bool.{true};
 ghost use lib.ListN.{length};
-ghost use lib.Ieee.{lt, le};
-ghost use Rattle.numbers.specs.Num.{zero64};
-ghost use Rattle.numbers.specs.Order.{finite};
 ghost use Rattle.seqs.specs.Slices.{capped, Put};
 ghost use Rattle.geom.specs.Point.{point};
 ghost use Rattle.geom.specs.Sewing.{flat};
-ghost use Rattle.sewing.specs.Sewing.{cutsFor, cuts, Decides, gap, sewTo, back, Near, targets};
+ghost use Rattle.sewing.specs.Sewing.{cutsAt, cutsFor, cuts, measured, Decides, gap, sewTo, back, Near, targets};
 use crate::row::Row;
 use crate::row::target_at;
 use geom::P;
@@ -26,24 +23,31 @@ pub struct Limits {
     pub two: f64,
 }
 
-// How many points cut a step of squared length d, by its root.
-fn cuts_by_root(d: f64, len: f64) -> u64
-    ensures { λ r. ⌜ r ≡ cutsFor len d ⌝ }
+// How many points cut a step of length x.
+fn cuts_at(x: f64, len: f64) -> u64
+    ensures { λ r. ⌜ r ≡ cutsAt len x ⌝ }
 {
-    let n = to_u64(ceil(root(d) / len));
+    let n = to_u64(ceil(x / len));
     if n == 0 {
         return 0;
     }
     n - 1
 }
 
-// Whether len and d are finite, len above zero and d not below it.
+// How many points cut a step of squared length d, by its root.
+fn cuts_by_root(d: f64, len: f64) -> u64
+    ensures { λ r. ⌜ r ≡ cutsFor len d ⌝ }
+{
+    cuts_at(root(d), len)
+}
+
+// Whether len and d are finite and above zero.
 fn measures(len: f64, d: f64) -> bool
-    ensures { λ r. ⌜ r ≡ (lt zero64 len && (finite len && (le zero64 d && finite d))) ⌝ }
+    ensures { λ r. ⌜ r ≡ measured len d ⌝ }
 {
     if 0.0 < len {
         if is_finite(len) {
-            if 0.0 <= d {
+            if 0.0 < d {
                 return is_finite(d);
             }
             return false;
@@ -53,27 +57,54 @@ fn measures(len: f64, d: f64) -> bool
     false
 }
 
-// The squares of len, of the next float above it and of twice len, each tried by a root: cuts never fall as a step grows.
+// Whether a step of squared length d is told to be cut by lo, a shorter one that is.
+fn is_cut(d: f64, lo: f64, len: f64) -> bool
+    ensures { λ r. ⌜ (r ≡ true → (measured len d ≡ true) × (1 ≤ cutsFor len d)) ⌝ }
+{
+    if measures(len, d) {
+        if measures(lo, d) {
+            if lo * lo < d {
+                return 1 <= cuts_at(lo, len);
+            }
+        }
+    }
+    false
+}
+
+// Whether it is told to be cut once at most by hi, a longer one that is.
+fn is_cut_once(d: f64, hi: f64, len: f64) -> bool
+    ensures { λ r. ⌜ (r ≡ true → (measured len d ≡ true) × (cutsFor len d ≤ 1)) ⌝ }
+{
+    if measures(len, d) {
+        if measures(hi, d) {
+            if d < hi * hi {
+                return cuts_at(hi, len) <= 1;
+            }
+        }
+    }
+    false
+}
+
+// The square of len, tried by its root; the float above the square of the float above len, and the one below the square of twice len, told by these lengths.
 pub fn limits_of(len: f64) -> Limits
     ensures { λ r. ⌜ Decides len r ⌝ }
 {
-    let d = len * len;
+    let one = len * len;
     let up = len + len * 1.2e-16;
-    let a = up * up;
-    let b = 4.0 * d;
-    if measures(len, d) {
-        if measures(len, a) {
-            if measures(len, b) {
-                if cuts_by_root(d, len) == 0 {
-                    if 1 <= cuts_by_root(a, len) {
-                        if cuts_by_root(b, len) <= 1 {
-                            return Limits {
-                                one: d,
-                                from: a,
-                                two: b,
-                            };
-                        }
-                    }
+    let over = up * up;
+    let from = over + over * 1.2e-16;
+    let twice = len + len;
+    let under = twice * twice;
+    let two = under - under * 1.2e-16;
+    if measures(len, one) {
+        if is_cut(from, up, len) {
+            if is_cut_once(two, twice, len) {
+                if cuts_by_root(one, len) == 0 {
+                    return Limits {
+                        one: one,
+                        from: from,
+                        two: two,
+                    };
                 }
             }
         }
