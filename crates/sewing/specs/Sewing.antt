@@ -1,7 +1,7 @@
 -- What sewing reads and leaves in the working slices, a row's targets by index, the cuts of a gap. Definitions only.
 use Prim.Native.Nat.{ℕ, zero, suc, _+_, _-_, _*_, _%_, _^_, _≤_, _<_}
 use mathlib.Core.Path.{_≡_}
-use mathlib.Core.Bool.{Bool, true, cond, _&&_}
+use mathlib.Core.Bool.{Bool, true, cond}
 use mathlib.Core.List.{List, [], _∷_, _++_, map}
 use lib.Dec.{T, ltb, eqb}
 use lib.IntN.{ℤ, pos, _+ℤ_, _-ℤ_}
@@ -173,9 +173,13 @@ square p q = (p .x ⊖ q .x) ⊗ (p .x ⊖ q .x) ⊕ (p .y ⊖ q .y) ⊗ (p .y �
 unfoldable pub cuts : Float → P → P → ℕ
 cuts len p q = cutsFor len (square p q)
 
--- finite and above zero, both
-abbrev pub measured : Float → Float → Bool
-measured len d = lt zero64 len && (finite len && (lt zero64 d && finite d))
+-- x and its square, rounded, are finite and above zero, and the root of that is x again
+pub record OwnRoot (x : Float) : Type 0 where
+  pub above : T (lt zero64 x)
+  pub fine : T (finite x)
+  pub some : T (lt zero64 (x ⊗ x))
+  pub whole : T (finite (x ⊗ x))
+  pub back : root (x ⊗ x) ≡ x
 
 -- squared lengths that decide with no root: up to `one` there is no cut, from `from` to `two` there is one
 pub record Decides (len : Float) (m : Limits) : Type 0 where

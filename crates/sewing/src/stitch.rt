@@ -6,12 +6,11 @@ ghost use lib.ListN.{length};
 ghost use Rattle.seqs.specs.Slices.{capped, Put};
 ghost use Rattle.geom.specs.Point.{point};
 ghost use Rattle.geom.specs.Sewing.{flat};
-ghost use Rattle.sewing.specs.Sewing.{cutsAt, cutsFor, cuts, measured, Decides, gap, sewTo, back, Near, targets};
+ghost use Rattle.sewing.specs.Sewing.{cutsAt, cutsFor, cuts, OwnRoot, Decides, gap, sewTo, back, Near, targets};
 use crate::row::Row;
 use crate::row::target_at;
 use geom::P;
 use leaves::ceil;
-use leaves::is_finite;
 use leaves::of_u64;
 use leaves::root;
 use leaves::to_u64;
@@ -41,70 +40,35 @@ fn cuts_by_root(d: f64, len: f64) -> u64
     cuts_at(root(d), len)
 }
 
-// Whether len and d are finite and above zero.
-fn measures(len: f64, d: f64) -> bool
-    ensures { λ r. ⌜ r ≡ measured len d ⌝ }
+// Whether x is told to be the root of its own square, which is rounded: for all but the tiniest and the largest it is.
+fn is_own_root(x: f64) -> bool
+    ensures { λ r. ⌜ (r ≡ true → OwnRoot x) ⌝ }
 {
-    if 0.0 < len {
-        if is_finite(len) {
-            if 0.0 < d {
-                return is_finite(d);
-            }
-            return false;
-        }
-        return false;
+    if 1e-100 <= x {
+        return x <= 1e100;
     }
     false
 }
 
-// Whether a step of squared length d is told to be cut by lo, a shorter one that is.
-fn is_cut(d: f64, lo: f64, len: f64) -> bool
-    ensures { λ r. ⌜ (r ≡ true → (measured len d ≡ true) × (1 ≤ cutsFor len d)) ⌝ }
-{
-    if measures(len, d) {
-        if measures(lo, d) {
-            if lo * lo < d {
-                return 1 <= cuts_at(lo, len);
-            }
-        }
-    }
-    false
-}
-
-// Whether it is told to be cut once at most by hi, a longer one that is.
-fn is_cut_once(d: f64, hi: f64, len: f64) -> bool
-    ensures { λ r. ⌜ (r ≡ true → (measured len d ≡ true) × (cutsFor len d ≤ 1)) ⌝ }
-{
-    if measures(len, d) {
-        if measures(hi, d) {
-            if d < hi * hi {
-                return cuts_at(hi, len) <= 1;
-            }
-        }
-    }
-    false
-}
-
-// The square of len, tried by its root; the float above the square of the float above len, and the one below the square of twice len, told by these lengths.
+// The squares of len, of the next float above it and of twice len: where these are the squares' roots, no root is taken.
 pub fn limits_of(len: f64) -> Limits
     ensures { λ r. ⌜ Decides len r ⌝ }
 {
-    let one = len * len;
     let up = len + len * 1.2e-16;
-    let over = up * up;
-    let from = over + over * 1.2e-16;
     let twice = len + len;
-    let under = twice * twice;
-    let two = under - under * 1.2e-16;
-    if measures(len, one) {
-        if is_cut(from, up, len) {
-            if is_cut_once(two, twice, len) {
-                if cuts_by_root(one, len) == 0 {
-                    return Limits {
-                        one: one,
-                        from: from,
-                        two: two,
-                    };
+    if is_own_root(len) {
+        if is_own_root(up) {
+            if is_own_root(twice) {
+                if cuts_at(len, len) == 0 {
+                    if 1 <= cuts_at(up, len) {
+                        if cuts_at(twice, len) <= 1 {
+                            return Limits {
+                                one: len * len,
+                                from: up * up,
+                                two: twice * twice,
+                            };
+                        }
+                    }
                 }
             }
         }
