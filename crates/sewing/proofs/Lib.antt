@@ -3,4 +3,5 @@ pub mod Signs
 pub mod Loops
 pub mod Chains
 pub mod Walks
+pub mod SquareRoots
 pub mod Shortcut

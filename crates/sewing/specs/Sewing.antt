@@ -6,11 +6,11 @@ use mathlib.Core.List.{List, [], _∷_, _++_, map}
 use lib.Dec.{T, ltb, eqb}
 use lib.IntN.{ℤ, pos, _+ℤ_, _-ℤ_}
 use lib.ListN.{length, take, drop, getD}
-use lib.Ieee.{Float, nan, binary64, fits, le, toSigned, toUnsigned}
+use lib.Ieee.{Float, nan, binary64, fits, lt, le, toSigned, toUnsigned}
 use mir.Syntax.{w64}
 use mir.Val.{SFits}
-use Rattle.numbers.specs.Num.{_⊕_, _⊖_, _⊗_, _⊘_, real, literal}
-use Rattle.numbers.specs.Order.{smaller}
+use Rattle.numbers.specs.Num.{_⊕_, _⊖_, _⊗_, _⊘_, real, literal, zero64}
+use Rattle.numbers.specs.Order.{smaller, finite}
 use Rattle.numbers.specs.Root.{root}
 use Rattle.numbers.specs.Whole.{floor, ceil}
 use Rattle.seqs.specs.Lists.{upto, each}
@@ -157,9 +157,13 @@ targets len w r left = map (λ i. point (target len w i) (w .y)) (upto r left)
 
 -- ---- gaps
 
--- how many points cut a step whose squared length is d, worked in f64
+-- how many points cut a step of length x, worked in f64
+abbrev pub cutsAt : Float → Float → ℕ
+cutsAt len x = toUnsigned 64 (ceil (x ⊘ len)) - 1
+
+-- and one whose squared length is d
 unfoldable pub cutsFor : Float → Float → ℕ
-cutsFor len d = toUnsigned 64 (ceil (root d ⊘ len)) - 1
+cutsFor len d = cutsAt len (root d)
 
 -- the squared length of the step from p to q
 abbrev pub square : P → P → Float
@@ -168,6 +172,14 @@ square p q = (p .x ⊖ q .x) ⊗ (p .x ⊖ q .x) ⊕ (p .y ⊖ q .y) ⊗ (p .y �
 -- how many points cut the way from p to q
 unfoldable pub cuts : Float → P → P → ℕ
 cuts len p q = cutsFor len (square p q)
+
+-- x and its square, rounded, are finite and above zero, and the root of that is x again
+pub record OwnRoot (x : Float) : Type 0 where
+  pub above : T (lt zero64 x)
+  pub fine : T (finite x)
+  pub some : T (lt zero64 (x ⊗ x))
+  pub whole : T (finite (x ⊗ x))
+  pub back : root (x ⊗ x) ≡ x
 
 -- squared lengths that decide with no root: up to `one` there is no cut, from `from` to `two` there is one
 pub record Decides (len : Float) (m : Limits) : Type 0 where

@@ -10,6 +10,8 @@ mod section;
 mod stitch;
 
 pub use links::link;
+pub use piece::Thread;
+pub use piece::ready;
 use rules::Settings;
 pub use section::count;
 pub use section::write;

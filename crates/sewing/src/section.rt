@@ -11,7 +11,6 @@ ghost use Rattle.rules.specs.Calls.{sewnPoints, sewnEnds};
 ghost use Rattle.sewing.specs.Sewing.{entriesIn, firstSections, Linked, Ready};
 use crate::Field;
 use crate::piece::Thread;
-use crate::piece::ready;
 use crate::piece::row_at;
 use crate::piece::start_at;
 use crate::stitch::count_row;
@@ -81,11 +80,17 @@ fn put_section(
 }
 
 // How many points the first sections have; cap + 1 where they pass the cap.
-pub fn count(floats: &[f64], wholes: &[usize], f: Field, sections: usize, cap: u64) -> u64
-    requires { ⌜ Linked f sections (now floats) (now wholes) × (cap < 2 ^ 63) ⌝ }
+pub fn count(
+    floats: &[f64],
+    wholes: &[usize],
+    f: Field,
+    t: Thread,
+    sections: usize,
+    cap: u64,
+) -> u64
+    requires { ⌜ Linked f sections (now floats) (now wholes) × Ready f t × (cap < 2 ^ 63) ⌝ }
     ensures { λ r. ⌜ r ≡ capped cap (length (each (λ s. s) (map (sewn (f .g) (f .stagger)) (firstSections (entriesIn f (now (floats .entry)) (now (wholes .entry))) sections)))) ⌝ }
 {
-    let t = ready(f);
     let mut c: u64 = 0;
     let mut s = 0;
     while s < sections {
@@ -105,12 +110,12 @@ pub fn write(
     floats: &[f64],
     wholes: &[usize],
     f: Field,
+    t: Thread,
     sections: usize,
 )
-    requires { ⌜ Linked f sections (now floats) (now wholes) × (length (flat (sewnPoints (map (sewn (f .g) (f .stagger)) (firstSections (entriesIn f (now floats) (now wholes)) sections)))) ≤ length (now out)) × (sections ≤ length (now ends)) ⌝ }
+    requires { ⌜ Linked f sections (now floats) (now wholes) × Ready f t × (length (flat (sewnPoints (map (sewn (f .g) (f .stagger)) (firstSections (entriesIn f (now floats) (now wholes)) sections)))) ≤ length (now out)) × (sections ≤ length (now ends)) ⌝ }
     ensures { λ _. ⌜ (now (out .exit) ≡ flat (sewnPoints (map (sewn (f .g) (f .stagger)) (firstSections (entriesIn f (now (floats .entry)) (now (wholes .entry))) sections))) ++ drop (length (flat (sewnPoints (map (sewn (f .g) (f .stagger)) (firstSections (entriesIn f (now (floats .entry)) (now (wholes .entry))) sections))))) (now (out .entry))) × (now (ends .exit) ≡ sewnEnds 0 (map (sewn (f .g) (f .stagger)) (firstSections (entriesIn f (now (floats .entry)) (now (wholes .entry))) sections)) ++ drop (length (sewnEnds 0 (map (sewn (f .g) (f .stagger)) (firstSections (entriesIn f (now (floats .entry)) (now (wholes .entry))) sections)))) (now (ends .entry))) ⌝ }
 {
-    let t = ready(f);
     let mut at = 0;
     let mut s = 0;
     while s < sections {

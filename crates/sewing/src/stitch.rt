@@ -1,20 +1,16 @@
 // From the pen to a target: how often the way is cut, counted and written.
 ghost use mathlib.Core.Path.{_≡_};
 ghost use Prim.Native.Nat.{_+_, _*_, _<_, _≤_, _^_};
-ghost use mathlib.Core.Bool.{_&&_};
+ghost use mathlib.Core.Bool.{true};
 ghost use lib.ListN.{length};
-ghost use lib.Ieee.{lt, le};
-ghost use Rattle.numbers.specs.Num.{zero64};
-ghost use Rattle.numbers.specs.Order.{finite};
 ghost use Rattle.seqs.specs.Slices.{capped, Put};
 ghost use Rattle.geom.specs.Point.{point};
 ghost use Rattle.geom.specs.Sewing.{flat};
-ghost use Rattle.sewing.specs.Sewing.{cutsFor, cuts, Decides, gap, sewTo, back, Near, targets};
+ghost use Rattle.sewing.specs.Sewing.{cutsAt, cutsFor, cuts, OwnRoot, Decides, gap, sewTo, back, Near, targets};
 use crate::row::Row;
 use crate::row::target_at;
 use geom::P;
 use leaves::ceil;
-use leaves::is_finite;
 use leaves::of_u64;
 use leaves::root;
 use leaves::to_u64;
@@ -26,51 +22,50 @@ pub struct Limits {
     pub two: f64,
 }
 
-// How many points cut a step of squared length d, by its root.
-fn cuts_by_root(d: f64, len: f64) -> u64
-    ensures { λ r. ⌜ r ≡ cutsFor len d ⌝ }
+// How many points cut a step of length x.
+fn cuts_at(x: f64, len: f64) -> u64
+    ensures { λ r. ⌜ r ≡ cutsAt len x ⌝ }
 {
-    let n = to_u64(ceil(root(d) / len));
+    let n = to_u64(ceil(x / len));
     if n == 0 {
         return 0;
     }
     n - 1
 }
 
-// Whether len and d are finite, len above zero and d not below it.
-fn measures(len: f64, d: f64) -> bool
-    ensures { λ r. ⌜ r ≡ (lt zero64 len && (finite len && (le zero64 d && finite d))) ⌝ }
+// How many points cut a step of squared length d, by its root.
+fn cuts_by_root(d: f64, len: f64) -> u64
+    ensures { λ r. ⌜ r ≡ cutsFor len d ⌝ }
 {
-    if 0.0 < len {
-        if is_finite(len) {
-            if 0.0 <= d {
-                return is_finite(d);
-            }
-            return false;
-        }
-        return false;
+    cuts_at(root(d), len)
+}
+
+// Whether x is told to be the root of its own square, which is rounded: for all but the tiniest and the largest it is.
+fn is_own_root(x: f64) -> bool
+    ensures { λ r. ⌜ (r ≡ true → OwnRoot x) ⌝ }
+{
+    if 1e-100 <= x {
+        return x <= 1e100;
     }
     false
 }
 
-// The squares of len, of the next float above it and of twice len, each tried by a root: cuts never fall as a step grows.
+// The squares of len, of the next float above it and of twice len: where these are the squares' roots, no root is taken.
 pub fn limits_of(len: f64) -> Limits
     ensures { λ r. ⌜ Decides len r ⌝ }
 {
-    let d = len * len;
     let up = len + len * 1.2e-16;
-    let a = up * up;
-    let b = 4.0 * d;
-    if measures(len, d) {
-        if measures(len, a) {
-            if measures(len, b) {
-                if cuts_by_root(d, len) == 0 {
-                    if 1 <= cuts_by_root(a, len) {
-                        if cuts_by_root(b, len) <= 1 {
+    let twice = len + len;
+    if is_own_root(len) {
+        if is_own_root(up) {
+            if is_own_root(twice) {
+                if cuts_at(len, len) == 0 {
+                    if 1 <= cuts_at(up, len) {
+                        if cuts_at(twice, len) <= 1 {
                             return Limits {
-                                one: d,
-                                from: a,
-                                two: b,
+                                one: len * len,
+                                from: up * up,
+                                two: twice * twice,
                             };
                         }
                     }

@@ -19,6 +19,7 @@ use sections::mark_all;
 use sewing::Field;
 use sewing::count;
 use sewing::link;
+use sewing::ready;
 use sewing::write;
 
 fn field_of(t: Plan, n: usize) -> Field
@@ -86,7 +87,8 @@ fn sew(
         };
     }
     let room = (points.len() / 2) as u64;
-    let n = count(pieces, numbers, f, sections, room);
+    let t = ready(f);
+    let n = count(pieces, numbers, f, t, sections, room);
     if n > room {
         return Filled {
             answer: ROOM,
@@ -94,7 +96,7 @@ fn sew(
             points: 0,
         };
     }
-    write(points, stops, pieces, numbers, f, sections);
+    write(points, stops, pieces, numbers, f, t, sections);
     Filled {
         answer: DONE,
         sections: sections as u64,
