@@ -18,7 +18,7 @@ use Rattle.geom.specs.Outline.{points}
 use Rattle.geom.specs.OutlineLaws.{cornerAt, points-next, points-end}
 use Rattle.geom.specs.Sewing.{flat}
 use Rattle.geom.specs.SewingLaws.{flat-length, flat-append}
-use Rattle.satinrules.specs.Column.{sidesFrom, sides, stagger, partsOf, partEnd, partsFrom, splitSide, bend, bends, sSide}
+use Rattle.satinrules.specs.Column.{sidesFrom, sides, stagger, partsOf, partEnd, partsFrom, splitSide, bend, bends, sSide, sStitch}
 use Rattle.styles.specs.Sides.{sideTo, laterSides}
 
 module _ (f : ℕ → P → P → List P) (l : List Float) where
@@ -102,3 +102,17 @@ module _ (p q : P) (k : ℕ) where
 
   pub bent-length : length (sideTo sSide k p q) ≡ cond (bends p q) 3 1
   bent-length = elim (either (bends p q)) [ inl e ↦ ap length (bent-side e) ∙ rw e | inr e ↦ ap length (straight-side e) ∙ rw e ]
+
+-- a bent side has two points before its last, so three a side and the first corner are the most
+s-few : (k : ℕ) (p q : P) → length (sSide k p q) ≤ 2
+s-few k p q = elim (either (bends p q)) [ inl e ↦ omega (arith, ap length (bent-side p q k e), length-append (sSide k p q) (q ∷ [])) | inr e ↦ omega (arith, ap length (straight-side p q k e), length-append (sSide k p q) (q ∷ [])) ]
+
+sides-few : (k : ℕ) (p : P) (ps : List P) → length (sidesFrom sSide k p ps) ≤ 3 * length ps
+unfolding sidesFrom
+sides-few k p [] = omega arith
+sides-few k p (q ∷ ps) = omega (arith, length-append (sSide k p q) (q ∷ sidesFrom sSide (k + 1) q ps), s-few k p q, sides-few (k + 1) q ps)
+
+pub bent-most : (ps : List P) → length (sStitch ps) ≤ 3 * length ps - 2
+unfolding sStitch sides
+bent-most [] = omega arith
+bent-most (p ∷ ps) = omega (arith, sides-few 0 p ps)
