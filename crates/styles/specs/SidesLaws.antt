@@ -70,17 +70,18 @@ module _ (f : ℕ → P → P → List P) (l : List Float) where
 
 -- ---- the parts of a split side
 
-number : (c : Float) → T (not (isNan c)) → toUnsigned 64 (larger c one) ≡ 1 + (toUnsigned 64 c - 1)
+-- the larger of c and 1, as a count
+larger-number : (c : Float) → T (not (isNan c)) → toUnsigned 64 (larger c one) ≡ 1 + (toUnsigned 64 c - 1)
 unfolding isNan toUnsigned
-number c h =
+larger-number c h =
     let top = laws.larger-has (λ (v : Float). toUnsigned 64 v ≤ 1 + (toUnsigned 64 c - 1)) c one (omega arith) (omega arith) in
     omega (arith, top, laws.unsigned-mono 64 c (larger c one) (laws.le-larger-left c one h tt), laws.unsigned-mono 64 one (larger c one) (laws.le-larger-right c one h tt))
 
 larger-one : (c : Float) → toUnsigned 64 (larger c one) ≡ 1 + (toUnsigned 64 c - 1)
 unfolding isNan
 larger-one nan = unfold larger toUnsigned in refl
-larger-one (inf s) = number (inf s) tt
-larger-one (fin s m e) = number (fin s m e) tt
+larger-one (inf s) = larger-number (inf s) tt
+larger-one (fin s m e) = larger-number (fin s m e) tt
 
 module _ (p q : P) (n : ℕ) (shift : Float) where
   pub parts-length : (j left : ℕ) → length (partsFrom p q n shift j left) ≡ left
@@ -99,7 +100,7 @@ module _ (p q : P) (n : ℕ) (shift : Float) where
   unfolding partsFrom
   parts-none j h = let e : n - j ≡ 0 = omega arith in rw e
 
--- a side that isn't split has one point; it is no part
+-- a side that isn't split has one point, and no part is put
 module _ (p q : P) (max : Float) where
   pub split-points : steps (dist p q) max ≡ 1 + (partsOf p q max - 1)
   unfolding steps partsOf

@@ -1,5 +1,5 @@
 -- `bends` meets its contract: the square tells, or the root. Assumes nothing.
-use mathlib.Core.Path.{_≡_, _∙_}
+use mathlib.Core.Path.{_≡_}
 use mathlib.Core.Bool.{true}
 use lib.Ieee.{le, lt, ofBits, round}
 use Rattle.numbers.specs.Num.{literal}

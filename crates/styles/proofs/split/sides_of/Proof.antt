@@ -1,5 +1,5 @@
 -- `sides_of` meets its contract: sides between those that tell as many, or none. Assumes nothing.
-use mathlib.Core.Path.{_≡_, refl, sym, subst}
+use mathlib.Core.Path.{refl}
 use lib.Ieee.{ofBits}
 use Rattle.styles.specs.SquareLaws.{told-none, told-alike}
 use borrow.Author.Needs.{needs}
