@@ -114,6 +114,10 @@ module _ (p q : P) (max : Float) where
       go zero h = unfold partsFrom in rw h
       go (suc m) h = let g : n ≡ suc m = omega (arith, h) in rw g
 
+  pub one-part : (k n : ℕ) → n ≡ steps (dist p q) max → n ≤ 1 → sideTo (splitSide max) k p q ≡ q ∷ []
+  unfolding partsFrom
+  one-part k n e h = let g : n ≡ 1 = omega (arith, e, split-points) in rw (split-parts k n e, g)
+
   -- a side's points, its last among them
   pub split-length : (k : ℕ) → length (sideTo (splitSide max) k p q) ≡ steps (dist p q) max
   split-length k =

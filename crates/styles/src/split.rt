@@ -79,19 +79,35 @@ fn sides_of(n: u64, max: f64) -> Alike
     }
 }
 
-// The points of the side from p to q, with what is known of sides like it; s is what is known of the last.
-fn side_of(p: P, q: P, max: f64, s: Alike) -> Alike
-    requires { ⌜ Told max s ⌝ }
+// Sides like the one from p to q: those with one point, those like s, or others, which are looked at anew.
+fn side_of(p: P, q: P, max: f64, one: Alike, s: Alike) -> Alike
+    requires { ⌜ Told max one × Told max s ⌝ }
     ensures { λ r. ⌜ Told max r × (r .n ≡ steps (dist p q) max) ⌝ }
 {
     let v = p.minus(q);
     let d = v.dot(v);
+    if one.from < d {
+        if d < one.to {
+            return one;
+        }
+    }
     if s.from < d {
         if d < s.to {
             return s;
         }
     }
     sides_of(points_of(d, max), max)
+}
+
+// What is known of longer sides, after a side like r.
+fn longer(max: f64, r: Alike, s: Alike) -> Alike
+    requires { ⌜ Told max r × Told max s ⌝ }
+    ensures { λ t. ⌜ Told max t ⌝ }
+{
+    if r.n > 1 {
+        return r;
+    }
+    s
 }
 
 // Where part j of n ends.
@@ -121,6 +137,10 @@ fn put_side(out: &mut [f64], to: usize, k: u64, p: P, q: P, max: f64, n: u64) ->
     requires { ⌜ (n ≡ steps (dist p q) max) × (to + 2 * length (sideTo (splitSide max) k p q) ≤ length (now out)) ⌝ }
     ensures { λ r. ⌜ (now (out .exit) ≡ put (now (out .entry)) to (flat (sideTo (splitSide max) k p q))) × (r ≡ to + 2 * length (sideTo (splitSide max) k p q)) ⌝ }
 {
+    if n <= 1 {
+        put_point(out, to, q);
+        return to + 2;
+    }
     let last = put_parts(out, to, p, q, n, stagger(k) / of_u64(n));
     put_point(out, last, q);
     last + 2
@@ -135,13 +155,15 @@ pub fn count_split(line: &[f64], max: f64, room: u64) -> u64
         return 0;
     }
     let mut p = corner(line, 0);
-    let mut s = sides_of(0, max);
+    let one = sides_of(1, max);
+    let mut s = one;
     let mut c: u64 = 1;
     let mut i = 2;
     while i + 1 < line.len() {
         let q = corner(line, i);
-        s = side_of(p, q, max, s);
-        c = add_within(c, s.n, room);
+        let r = side_of(p, q, max, one, s);
+        c = add_within(c, r.n, room);
+        s = longer(max, r, s);
         p = q;
         i += 2;
     }
@@ -154,14 +176,16 @@ fn put_sides(out: &mut [f64], k: usize, line: &[f64], max: f64) -> usize
     ensures { λ r. ⌜ (now (out .exit) ≡ put (now (out .entry)) k (flat (laterSides (splitSide max) (now (line .entry))))) × (r ≡ k + length (flat (laterSides (splitSide max) (now (line .entry))))) ⌝ }
 {
     let mut p = corner(line, 0);
-    let mut s = sides_of(0, max);
+    let one = sides_of(1, max);
+    let mut s = one;
     let mut to = k;
     let mut side: u64 = 0;
     let mut i = 2;
     while i + 1 < line.len() {
         let q = corner(line, i);
-        s = side_of(p, q, max, s);
-        to = put_side(out, to, side, p, q, max, s.n);
+        let r = side_of(p, q, max, one, s);
+        to = put_side(out, to, side, p, q, max, r.n);
+        s = longer(max, r, s);
         p = q;
         side += 1;
         i += 2;
