@@ -20,7 +20,7 @@ use Rattle.numbers.specs.Laws as laws
 use Rattle.geom.specs.Point.{one}
 use Rattle.geom.specs.Steps.{steps}
 use Rattle.polyline.specs.Line.{shortest}
-use Rattle.polyline.specs.Cuts.{squareSteps, Between}
+use Rattle.polyline.specs.Cuts.{squareSteps, Alike}
 
 shortest-above : (x : Float) → T (le shortest x) → T (lt zero64 x)
 unfolding shortest literal round lt
@@ -105,9 +105,19 @@ not-less x y h = go (lt y x) refl
     go true e = absurd (laws.le-lt-clash x y h (laws.holds e))
     go false e = refl
 
+-- d's root lies between lo and hi, both long enough to be sewn, and len can be divided by
+record Between (d lo hi len : Float) : Type 0 where
+  long : T (le shortest lo)
+  over : T (le lo (root d))
+  under : T (le (root d) hi)
+  lo-fine : T (finite lo)
+  hi-fine : T (finite hi)
+  len-fine : T (finite len)
+  above : T (lt zero64 len)
+
 module _ (d lo hi len : Float) where
   -- n is what the longest way is cut to, and the shortest takes more
-  pub decided : (n : ℕ) → n < 2 ^ 52 → Between d lo hi len → n ≡ toUnsigned 64 (hi ⊘ len) → T (lt (real (pos n)) (lo ⊘ len)) → n + 1 ≡ squareSteps d len
+  decided : (n : ℕ) → n < 2 ^ 52 → Between d lo hi len → n ≡ toUnsigned 64 (hi ⊘ len) → T (lt (real (pos n)) (lo ⊘ len)) → n + 1 ≡ squareSteps d len
   unfolding squareSteps
   decided n s b e l =
       let f = laws.between-finite lo (root d) hi (b .lo-fine) (b .hi-fine) (b .over) (b .under) in
@@ -117,7 +127,7 @@ module _ (d lo hi len : Float) where
       rw (not-less shortest (root d) (laws.le-trans shortest lo (root d) (b .long) (b .over))) (sym (steps-next n s (root d) len (laws.lt-le-trans (real (pos n)) (lo ⊘ len) (root d ⊘ len) l p) (laws.le-trans (root d ⊘ len) (hi ⊘ len) (real (pos (n + 1))) q k)))
 
   -- a number between, by tests on squares; `most` is any bound
-  pub tried : (most : Float) → T (finite most) → T (fits binary64 d) → T (fits binary64 lo) → T (fits binary64 hi)
+  tried : (most : Float) → T (finite most) → T (fits binary64 d) → T (fits binary64 lo) → T (fits binary64 hi)
       → T (le shortest lo) → T (le lo hi) → T (le hi most) → T (lt zero64 len) → T (le len most) → T (lt (lo ⊗ lo) d) → T (lt d (hi ⊗ hi)) → Between d lo hi len
   unfolding finite
   tried most m fd fl fh a b c p q r s =
@@ -134,3 +144,8 @@ module _ (d lo hi len : Float) where
         len-fine = laws.between-finite zero64 len most tt m (laws.lt-le zero64 len p) q;
         above = p;
       }
+
+-- every piece between takes as many
+pub alike-steps : (lo hi len most : Float) → T (finite most) → T (fits binary64 lo) → T (fits binary64 hi) → T (le shortest lo) → T (le lo hi) → T (le hi most) → T (lt zero64 len) → T (le len most)
+    → (n : ℕ) → n < 2 ^ 52 → n ≡ toUnsigned 64 (hi ⊘ len) → T (lt (real (pos n)) (lo ⊘ len)) → Alike lo hi len (n + 1)
+alike-steps lo hi len most m fl fh a b c p q n s e l = λ d f r t. decided d lo hi len n s (tried d lo hi len most m f fl fh a b c p q (laws.holds r) (laws.holds t)) e l

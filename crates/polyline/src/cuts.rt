@@ -1,8 +1,7 @@
 // How many stitches a piece takes: by squares where they decide, otherwise by the root.
 ghost use mathlib.Core.Path.{_≡_};
-ghost use mathlib.Core.Bool.{true};
 ghost use Prim.Native.Nat.{_<_};
-ghost use Rattle.polyline.specs.Cuts.{squareSteps, Between};
+ghost use Rattle.polyline.specs.Cuts.{squareSteps, Alike};
 ghost use Rattle.polyline.specs.Line.{pieceSteps};
 use geom::P;
 use geom::steps::steps;
@@ -24,39 +23,39 @@ fn near_root(d: f64) -> f64 {
     d
 }
 
-// Whether d's root lies between lo and hi, lo is no shorter than a piece that is sewn, and len can be divided by.
-fn between(d: f64, lo: f64, hi: f64, len: f64) -> bool
-    ensures { λ r. ⌜ (r ≡ true → Between d lo hi len) ⌝ }
+// How many steps every piece takes whose squared length lies between those of lo and hi, where both of these tell as many; otherwise 0.
+pub fn alike(lo: f64, hi: f64, len: f64) -> u64
+    ensures { λ r. ⌜ (0 < r → Alike lo hi len r) ⌝ }
 {
     if 1e-9 <= lo {
         if lo <= hi {
             if hi <= 1e9 {
                 if 0.0 < len {
                     if len <= 1e9 {
-                        if lo * lo < d {
-                            return d < hi * hi;
+                        let n = to_u64(hi / len);
+                        if n < 4503599627370496 {
+                            if of_u64(n) < lo / len {
+                                return n + 1;
+                            }
                         }
                     }
                 }
             }
         }
     }
-    false
+    0
 }
 
 // The steps of a piece of squared length d, where what lies a little under its root and a little over it takes as many; otherwise 0.
-fn by_squares(d: f64, len: f64) -> u64
+pub fn by_squares(d: f64, len: f64) -> u64
     ensures { λ r. ⌜ (0 < r → r ≡ squareSteps d len) ⌝ }
 {
     let near = near_root(d);
     let lo = near * 0.99999;
     let hi = near * 1.00001;
-    if between(d, lo, hi, len) {
-        let n = to_u64(hi / len);
-        if n < 4503599627370496 {
-            if of_u64(n) < lo / len {
-                return n + 1;
-            }
+    if lo * lo < d {
+        if d < hi * hi {
+            return alike(lo, hi, len);
         }
     }
     0

@@ -7,6 +7,7 @@ ghost use lib.ListN.{length};
 ghost use Rattle.refusal.specs.Sewn.{sewn, output};
 ghost use Rattle.seqs.specs.Slices.{put, capped};
 ghost use Rattle.geom.specs.Outline.{points};
+ghost use Rattle.geom.specs.Point.{len, norm};
 ghost use Rattle.geom.specs.Sewing.{flat, fitted};
 ghost use Rattle.satinrules.specs.Column.{bend, bends, sSide, sStitch};
 ghost use Rattle.styles.specs.Sides.{sideTo, laterSides};
@@ -14,28 +15,49 @@ use geom::P;
 use geom::sewing::add_within;
 use geom::sewing::corner;
 use geom::sewing::put_point;
+use leaves::root;
 use leaves::smaller;
 use refusal::DONE;
 use refusal::ROOM;
 use refusal::Sewn;
 
-// How far side k is pushed sideways.
+// The direction of v, whose length is l.
+fn towards(v: P, l: f64) -> P
+    requires { ⌜ l ≡ len v ⌝ }
+    ensures { λ r. ⌜ r ≡ norm v ⌝ }
+{
+    if l > 1e-12 {
+        return v.times(1.0 / l);
+    }
+    P { x: 0.0, y: 0.0 }
+}
+
+// How far side k is pushed sideways. Direction and length take one root.
 fn bend(k: u64, p: P, q: P) -> P
     ensures { λ r. ⌜ r ≡ bend k p q ⌝ }
 {
     let d = q.minus(p);
-    let side = d.norm().perp().times(smaller(d.len() * 0.18, 8.0));
+    let l = d.len();
+    let side = towards(d, l).perp().times(smaller(l * 0.18, 8.0));
     if k % 2 == 0 {
         return side.times(1.0);
     }
     side.times(-1.0)
 }
 
-// Only lengths above 6 bend.
+// Only lengths above 6 bend. The square tells below 36, and from the next float on; only 36 itself and a NaN ask for the root.
 fn bends(p: P, q: P) -> bool
     ensures { λ r. ⌜ r ≡ bends p q ⌝ }
 {
-    q.minus(p).len() > 6.0
+    let v = q.minus(p);
+    let d = v.dot(v);
+    if d < 36.0 {
+        return false;
+    }
+    if d >= 36.00000000000001 {
+        return true;
+    }
+    root(d) > 6.0
 }
 
 // How many points a side has, its last among them.
@@ -115,10 +137,17 @@ pub fn put_bent(out: &mut [f64], k: usize, line: &[f64]) -> usize
     put_sides(out, k + 2, line)
 }
 
-// The bent path to the front of out, or ROOM and nothing.
+// The bent path to the front of out, or ROOM and nothing. Three points a side and one more are the most: where they have room, nothing is counted first.
 pub fn s_stitch(line: &[f64], out: &mut [f64]) -> Sewn
     ensures { λ r. ⌜ (r ≡ sewn (fitted (sStitch (points (now (line .entry)))) (length (now (out .entry)))) (length (sStitch (points (now (line .entry)))))) × (now (out .exit) ≡ output (fitted (sStitch (points (now (line .entry)))) (length (now (out .entry)))) (flat (sStitch (points (now (line .entry))))) (now (out .entry))) ⌝ }
 {
+    if line.len() / 2 <= (out.len() / 2 + 2) / 3 {
+        let end = put_bent(out, 0, line);
+        return Sewn {
+            answer: DONE,
+            points: (end / 2) as u64,
+        };
+    }
     let room = (out.len() / 2) as u64;
     let points = count_bent(line, room);
     if points > room {

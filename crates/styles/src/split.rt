@@ -5,17 +5,22 @@ ghost use Prim.Native.Nat.{_+_, _-_, _*_, _^_, _<_, _≤_};
 ghost use lib.ListN.{length};
 ghost use Rattle.refusal.specs.Sewn.{sewn, output};
 ghost use Rattle.seqs.specs.Slices.{put, capped};
+ghost use Rattle.numbers.specs.Root.{root};
 ghost use Rattle.geom.specs.Outline.{points};
+ghost use Rattle.geom.specs.Point.{dist};
+ghost use Rattle.geom.specs.Steps.{steps};
 ghost use Rattle.geom.specs.Sewing.{flat, fitted};
-ghost use Rattle.satinrules.specs.Column.{stagger, partsOf, partEnd, partsFrom, splitSide, splitLong};
-ghost use Rattle.styles.specs.Sides.{sideTo, laterSides};
+ghost use Rattle.satinrules.specs.Column.{stagger, partEnd, partsFrom, splitSide, splitLong};
+ghost use Rattle.styles.specs.Sides.{sideTo, laterSides, Told};
 use geom::P;
 use geom::sewing::add_within;
 use geom::sewing::corner;
 use geom::sewing::put_point;
-use leaves::ceil;
+use geom::steps::steps;
 use leaves::of_u64;
-use leaves::to_u64;
+use leaves::root;
+use polyline::cuts::alike;
+use polyline::cuts::by_squares;
 use refusal::DONE;
 use refusal::ROOM;
 use refusal::Sewn;
@@ -33,11 +38,76 @@ fn stagger(k: u64) -> f64
     -0.33
 }
 
-// How many parts a side is split in.
-fn parts_of(p: P, q: P, max: f64) -> u64
-    ensures { λ r. ⌜ r ≡ partsOf p q max ⌝ }
+// Sides whose squared length lies between `from` and `to` have n points, their last among them.
+pub struct Alike {
+    pub from: f64,
+    pub to: f64,
+    pub n: u64,
+}
+
+// How many points a side of squared length d has: by squares where they decide, otherwise by the root.
+fn points_of(d: f64, max: f64) -> u64
+    ensures { λ r. ⌜ r ≡ steps (root d) max ⌝ }
 {
-    to_u64(ceil(p.dist(q) / max))
+    let n = by_squares(d, max);
+    if n > 0 {
+        return n;
+    }
+    steps(root(d), max)
+}
+
+// Which sides have n points: those a little longer than n - 1 times max, and a little shorter than n times.
+fn sides_of(n: u64, max: f64) -> Alike
+    ensures { λ r. ⌜ Told max r × (r .n ≡ n) ⌝ }
+{
+    let most = of_u64(n) * max;
+    let lo = (most - max) * 1.0000001 + 1e-9;
+    let hi = most * 0.9999999;
+    if n > 0 {
+        if alike(lo, hi, max) == n {
+            return Alike {
+                from: lo * lo,
+                to: hi * hi,
+                n: n,
+            };
+        }
+    }
+    Alike {
+        from: 0.0,
+        to: 0.0,
+        n: n,
+    }
+}
+
+// Sides like the one from p to q: those with one point, those like s, or others, which are looked at anew.
+fn side_of(p: P, q: P, max: f64, one: Alike, s: Alike) -> Alike
+    requires { ⌜ Told max one × Told max s ⌝ }
+    ensures { λ r. ⌜ Told max r × (r .n ≡ steps (dist p q) max) ⌝ }
+{
+    let v = p.minus(q);
+    let d = v.dot(v);
+    if one.from < d {
+        if d < one.to {
+            return one;
+        }
+    }
+    if s.from < d {
+        if d < s.to {
+            return s;
+        }
+    }
+    sides_of(points_of(d, max), max)
+}
+
+// What is known of longer sides, after a side like r.
+fn longer(max: f64, r: Alike, s: Alike) -> Alike
+    requires { ⌜ Told max r × Told max s ⌝ }
+    ensures { λ t. ⌜ Told max t ⌝ }
+{
+    if r.n > 1 {
+        return r;
+    }
+    s
 }
 
 // Where part j of n ends.
@@ -62,23 +132,15 @@ fn put_parts(out: &mut [f64], k: usize, p: P, q: P, n: u64, shift: f64) -> usize
     to
 }
 
-// How many points a side has, its last among them.
-fn count_side(p: P, q: P, max: f64) -> u64
-    ensures { λ r. ⌜ r ≡ 1 + (partsOf p q max - 1) ⌝ }
-{
-    let n = parts_of(p, q, max);
-    if n > 1 {
-        return n;
-    }
-    1
-}
-
-// The points of side k, from `to` on; answers the place after them.
-fn put_side(out: &mut [f64], to: usize, k: u64, p: P, q: P, max: f64) -> usize
-    requires { ⌜ to + 2 * length (sideTo (splitSide max) k p q) ≤ length (now out) ⌝ }
+// The n points of side k, from `to` on; answers the place after them.
+fn put_side(out: &mut [f64], to: usize, k: u64, p: P, q: P, max: f64, n: u64) -> usize
+    requires { ⌜ (n ≡ steps (dist p q) max) × (to + 2 * length (sideTo (splitSide max) k p q) ≤ length (now out)) ⌝ }
     ensures { λ r. ⌜ (now (out .exit) ≡ put (now (out .entry)) to (flat (sideTo (splitSide max) k p q))) × (r ≡ to + 2 * length (sideTo (splitSide max) k p q)) ⌝ }
 {
-    let n = parts_of(p, q, max);
+    if n <= 1 {
+        put_point(out, to, q);
+        return to + 2;
+    }
     let last = put_parts(out, to, p, q, n, stagger(k) / of_u64(n));
     put_point(out, last, q);
     last + 2
@@ -93,11 +155,15 @@ pub fn count_split(line: &[f64], max: f64, room: u64) -> u64
         return 0;
     }
     let mut p = corner(line, 0);
+    let one = sides_of(1, max);
+    let mut s = one;
     let mut c: u64 = 1;
     let mut i = 2;
     while i + 1 < line.len() {
         let q = corner(line, i);
-        c = add_within(c, count_side(p, q, max), room);
+        let r = side_of(p, q, max, one, s);
+        c = add_within(c, r.n, room);
+        s = longer(max, r, s);
         p = q;
         i += 2;
     }
@@ -110,12 +176,16 @@ fn put_sides(out: &mut [f64], k: usize, line: &[f64], max: f64) -> usize
     ensures { λ r. ⌜ (now (out .exit) ≡ put (now (out .entry)) k (flat (laterSides (splitSide max) (now (line .entry))))) × (r ≡ k + length (flat (laterSides (splitSide max) (now (line .entry))))) ⌝ }
 {
     let mut p = corner(line, 0);
+    let one = sides_of(1, max);
+    let mut s = one;
     let mut to = k;
     let mut side: u64 = 0;
     let mut i = 2;
     while i + 1 < line.len() {
         let q = corner(line, i);
-        to = put_side(out, to, side, p, q, max);
+        let r = side_of(p, q, max, one, s);
+        to = put_side(out, to, side, p, q, max, r.n);
+        s = longer(max, r, s);
         p = q;
         side += 1;
         i += 2;
