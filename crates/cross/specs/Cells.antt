@@ -1,4 +1,4 @@
--- What the code of cross stitch goes by: the grid with its counts stopped past 4,096, where a scan of a row's cells stops, and what a writer needs. Definitions only.
+-- What the code of cross stitch goes by: the grid with its counts stopped past 4,096, the sides of a row, where a scan of a row's cells stops, and what a writer needs. Definitions only.
 use Prim.Native.Nat.{ℕ, _+_, _-_, _≤_, _<_}
 use mathlib.Core.Path.{_≡_}
 use mathlib.Core.Bool.{Bool, true, false, not}
@@ -9,11 +9,13 @@ use lib.Dec.{T}
 use lib.Ieee.{Float, isNan, eq}
 use mir.Syntax.{w64}
 use mir.Val.{SFits}
-use Rattle.numbers.specs.Num.{zero64}
+use Rattle.numbers.specs.Num.{_⊕_, _⊗_, half, zero64}
 use Rattle.seqs.specs.Lists.{upto, sift, fold}
 use Rattle.seqs.specs.Slices.{capped}
 use Rattle.geom.specs.declared.point.P.{P}
+use Rattle.geom.specs.Outline.{rings, Layout}
 use Rattle.outlines.specs.declared.rule.FillRule.{FillRule}
+use Rattle.outlines.specs.Sides.{Gathered}
 use Rattle.limits.specs.Limits.{mostCells}
 use Rattle.patterns_rules.specs.declared.Bounds.{Bounds}
 use Rattle.patterns_rules.specs.declared.Grid.{Grid}
@@ -55,6 +57,11 @@ pub record Laid (g : Grid) : Type 0 where
   pub row : (r : ℕ) → r < g .rows → SFits w64 (g .top +ℤ pos r)
   pub columns : g .columns ≤ mostCells
   pub rows : g .rows ≤ mostCells
+
+-- an outline, and in the first numbers of a slice, if it has so many, its sides across the centres of the row at y
+pub record Crossed (corners : List Float) (ends : List ℕ) (sides : List Float) (size : ℕ) (g : Grid) (y : Float) : Type 0 where
+  pub layout : Layout corners ends
+  pub across : Gathered (rings corners ends) (y ⊕ g .cell ⊗ half) size sides
 
 -- the runs of the cells from i up to n
 abbrev pub runsIn : (ℕ → Bool) → ℕ → ℕ → List Run

@@ -4,16 +4,26 @@ ghost use Prim.Native.Nat.{_*_, _≤_};
 ghost use Rattle.geom.specs.Outline.{rings, Layout};
 ghost use Rattle.patterns_rules.specs.Patterns.{rowLines, stitched};
 ghost use Rattle.patterns_rules.specs.Answers.{countOf};
-ghost use Rattle.cross.specs.Cells.{Laid};
+ghost use Rattle.cross.specs.Cells.{Laid, Crossed};
+use crate::cells::SIDES;
 use crate::cells::next_run;
+use crate::cells::row_sides;
 use crate::grid::y_at;
 use outlines::FillRule;
 use patterns_rules::Count;
 use patterns_rules::Grid;
 
-// Of the row of cells at y.
-fn count_row(corners: &[f64], ends: &[usize], rule: FillRule, g: Grid, y: f64) -> Count
-    requires { ⌜ Layout (now corners) (now ends) × Laid g ⌝ }
+// Of the row of cells at y, with the sides across their centres.
+fn count_runs(
+    corners: &[f64],
+    ends: &[usize],
+    sides: &[f64],
+    size: usize,
+    rule: FillRule,
+    g: Grid,
+    y: f64,
+) -> Count
+    requires { ⌜ Crossed (now corners) (now ends) (now sides) size g y × Laid g ⌝ }
     ensures { λ r. ⌜ (r ≡ countOf (rowLines (rings (now (corners .entry)) (now (ends .entry))) rule g y)) × (r .lines ≤ 4096) × (r .points ≤ 4 * 4096) ⌝ }
 {
     let n = g.columns;
@@ -21,7 +31,7 @@ fn count_row(corners: &[f64], ends: &[usize], rule: FillRule, g: Grid, y: f64) -
     let mut at = 0;
     let mut i = 0;
     while i < n {
-        let run = next_run(corners, ends, rule, g, y, i);
+        let run = next_run(corners, ends, sides, size, rule, g, y, i);
         if run.many == 0 {
             return Count {
                 lines: s,
@@ -36,6 +46,16 @@ fn count_row(corners: &[f64], ends: &[usize], rule: FillRule, g: Grid, y: f64) -
         lines: s,
         points: at,
     }
+}
+
+// Of the row of cells at y.
+fn count_row(corners: &[f64], ends: &[usize], rule: FillRule, g: Grid, y: f64) -> Count
+    requires { ⌜ Layout (now corners) (now ends) × Laid g ⌝ }
+    ensures { λ r. ⌜ (r ≡ countOf (rowLines (rings (now (corners .entry)) (now (ends .entry))) rule g y)) × (r .lines ≤ 4096) × (r .points ≤ 4 * 4096) ⌝ }
+{
+    let mut sides = [0.0f64; SIDES];
+    let size = row_sides(corners, ends, &mut sides, g, y);
+    count_runs(corners, ends, &sides, size, rule, g, y)
 }
 
 // Of all rows.

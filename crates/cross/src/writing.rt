@@ -11,8 +11,10 @@ ghost use Rattle.geom.specs.Sewing.{flat};
 ghost use Rattle.rules.specs.Calls.{sewnPoints, sewnEnds};
 ghost use Rattle.patterns_rules.specs.Patterns.{outOver, backOver, outAndBack, rowLines, stitched};
 ghost use Rattle.patterns_rules.specs.Answers.{countOf, leftPoints, leftEnds};
-ghost use Rattle.cross.specs.Cells.{Laid};
+ghost use Rattle.cross.specs.Cells.{Laid, Crossed};
+use crate::cells::SIDES;
 use crate::cells::next_run;
+use crate::cells::row_sides;
 use crate::grid::x_at;
 use crate::grid::y_at;
 use geom::P;
@@ -83,18 +85,20 @@ fn put_run(out: &mut [f64], k: usize, g: Grid, y: f64, run: Run)
     put_back(out, k + 4 * run.many, g, y, run);
 }
 
-// The rows of the cells at y, after those that are done.
-fn put_row(
+// The rows of the cells at y, after those that are done, with the sides across the centres.
+fn put_runs(
     out: &mut [f64],
     stops: &mut [usize],
     done: Count,
     corners: &[f64],
     ends: &[usize],
+    sides: &[f64],
+    size: usize,
     rule: FillRule,
     g: Grid,
     y: f64,
 ) -> Count
-    requires { ⌜ Layout (now corners) (now ends) × Laid g × (2 * done .points + length (flat (sewnPoints (rowLines (rings (now corners) (now ends)) rule g y))) ≤ length (now out)) × (done .lines + length (rowLines (rings (now corners) (now ends)) rule g y) ≤ length (now stops)) ⌝ }
+    requires { ⌜ Crossed (now corners) (now ends) (now sides) size g y × Laid g × (2 * done .points + length (flat (sewnPoints (rowLines (rings (now corners) (now ends)) rule g y))) ≤ length (now out)) × (done .lines + length (rowLines (rings (now corners) (now ends)) rule g y) ≤ length (now stops)) ⌝ }
     ensures { λ r. ⌜ (now (out .exit) ≡ put (now (out .entry)) (2 * done .points) (flat (sewnPoints (rowLines (rings (now (corners .entry)) (now (ends .entry))) rule g y)))) × (now (stops .exit) ≡ put (now (stops .entry)) (done .lines) (sewnEnds (done .points) (rowLines (rings (now (corners .entry)) (now (ends .entry))) rule g y))) × (r .lines ≡ done .lines + length (rowLines (rings (now (corners .entry)) (now (ends .entry))) rule g y)) × (r .points ≡ done .points + length (sewnPoints (rowLines (rings (now (corners .entry)) (now (ends .entry))) rule g y))) ⌝ }
 {
     let n = g.columns;
@@ -102,7 +106,7 @@ fn put_row(
     let mut at = done.points;
     let mut i = 0;
     while i < n {
-        let run = next_run(corners, ends, rule, g, y, i);
+        let run = next_run(corners, ends, sides, size, rule, g, y, i);
         if run.many == 0 {
             return Count {
                 lines: s,
@@ -119,6 +123,25 @@ fn put_row(
         lines: s,
         points: at,
     }
+}
+
+// The rows of the cells at y, after those that are done.
+fn put_row(
+    out: &mut [f64],
+    stops: &mut [usize],
+    done: Count,
+    corners: &[f64],
+    ends: &[usize],
+    rule: FillRule,
+    g: Grid,
+    y: f64,
+) -> Count
+    requires { ⌜ Layout (now corners) (now ends) × Laid g × (2 * done .points + length (flat (sewnPoints (rowLines (rings (now corners) (now ends)) rule g y))) ≤ length (now out)) × (done .lines + length (rowLines (rings (now corners) (now ends)) rule g y) ≤ length (now stops)) ⌝ }
+    ensures { λ r. ⌜ (now (out .exit) ≡ put (now (out .entry)) (2 * done .points) (flat (sewnPoints (rowLines (rings (now (corners .entry)) (now (ends .entry))) rule g y)))) × (now (stops .exit) ≡ put (now (stops .entry)) (done .lines) (sewnEnds (done .points) (rowLines (rings (now (corners .entry)) (now (ends .entry))) rule g y))) × (r .lines ≡ done .lines + length (rowLines (rings (now (corners .entry)) (now (ends .entry))) rule g y)) × (r .points ≡ done .points + length (sewnPoints (rowLines (rings (now (corners .entry)) (now (ends .entry))) rule g y))) ⌝ }
+{
+    let mut sides = [0.0f64; SIDES];
+    let size = row_sides(corners, ends, &mut sides, g, y);
+    put_runs(out, stops, done, corners, ends, &sides, size, rule, g, y)
 }
 
 // All rows to the front of out, and where each ends, in points, to the front of stops; answers how many.

@@ -1,3 +1,4 @@
 mod Blocks
+mod Gathering
 mod Loops
 mod Parity

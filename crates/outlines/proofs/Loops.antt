@@ -112,6 +112,12 @@ module _ (p : P) (l : List Float) where
 
 -- ---- the rings
 
+-- a ring lent as a part of the corners
+pub part-even : (l : List Float) (a e : ℕ) → a ≤ e → 2 * e ≤ length l → length (take (2 * e - 2 * a) (drop (2 * a) l)) % 2 ≡ 0
+part-even l a e h k =
+    let n : length (take (2 * e - 2 * a) (drop (2 * a) l)) ≡ 2 * (e - a) = length-take-le (2 * e - 2 * a) (drop (2 * a) l) (omega (arith, length-drop (2 * a) l)) ∙ omega arith in
+    omega arith
+
 module _ (p : P) (ends : List ℕ) (l : List Float) where
   pub rings-next : (z : ℤ) (a k : ℕ) → k < length ends
       → z +ℤ winding (cut a (drop k ends) (points l)) p ≡ (z +ℤ ring p (points (take (2 * getD ends k 0 - 2 * a) (drop (2 * a) l)))) +ℤ winding (cut (getD ends k 0) (drop (k + 1) ends) (points l)) p
@@ -122,16 +128,10 @@ module _ (p : P) (ends : List ℕ) (l : List Float) where
   unfolding winding
   rings-end z a k h = rw (cut-none a ends k l h) (+ℤ-idr z)
 
-  module _ (a e : ℕ) where
-    pub part-even : a ≤ e → 2 * e ≤ length l → length (take (2 * e - 2 * a) (drop (2 * a) l)) % 2 ≡ 0
-    part-even h k =
-        let n : length (take (2 * e - 2 * a) (drop (2 * a) l)) ≡ 2 * (e - a) = length-take-le (2 * e - 2 * a) (drop (2 * a) l) (omega (arith, length-drop (2 * a) l)) ∙ omega arith in
-        omega arith
-
-    pub part-small : natAbs (ring p (points (take (2 * e - 2 * a) (drop (2 * a) l)))) ≤ e - a
-    part-small =
-        let m = take (2 * e - 2 * a) (drop (2 * a) l) in
-        omega (arith, ring-small p (points m), points-length m, length-take (2 * e - 2 * a) (drop (2 * a) l))
+  pub part-small : (a e : ℕ) → natAbs (ring p (points (take (2 * e - 2 * a) (drop (2 * a) l)))) ≤ e - a
+  part-small a e =
+      let m = take (2 * e - 2 * a) (drop (2 * a) l) in
+      omega (arith, ring-small p (points m), points-length m, length-take (2 * e - 2 * a) (drop (2 * a) l))
 
 -- ---- the steps of a segment
 

@@ -77,12 +77,12 @@ chain-split p (suc k) (a ∷ b ∷ l) h =
 low-not-above : (x y : Float) → le x y ≡ true → lt y x ≡ false
 low-not-above x y h = refute (lt y x) (λ t. absurd (le-lt-clash x y (holds h) (holds t)))
 
--- an edge with both ends on one side adds nothing
-edge-high : (a b p : P) → le (a .y) (p .y) ≡ false → le (b .y) (p .y) ≡ false → edge a b p ≡ pos 0
+-- an edge with both ends on one side adds nothing; for the sides across a height too
+pub edge-high : (a b p : P) → le (a .y) (p .y) ≡ false → le (b .y) (p .y) ≡ false → edge a b p ≡ pos 0
 unfolding edge
 edge-high a b p h k = rw (h, k)
 
-edge-low : (a b p : P) → le (a .y) (p .y) ≡ true → le (b .y) (p .y) ≡ true → edge a b p ≡ pos 0
+pub edge-low : (a b p : P) → le (a .y) (p .y) ≡ true → le (b .y) (p .y) ≡ true → edge a b p ≡ pos 0
 unfolding edge
 edge-low a b p h k = rw (h, low-not-above (b .y) (p .y) k)
 

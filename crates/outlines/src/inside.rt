@@ -2,8 +2,10 @@
 ghost use mathlib.Core.Path.{_≡_};
 ghost use Rattle.geom.specs.Outline.{rings, Layout};
 ghost use Rattle.outlines.specs.Heights.{Measured};
+ghost use Rattle.outlines.specs.Sides.{Gathered};
 ghost use Rattle.outlines.specs.Inside.{pointInside, segmentInside};
 use crate::rule::FillRule;
+use crate::sides::crossed;
 use crate::winding::winding;
 use crate::winding::winding_by;
 use geom::P;
@@ -23,6 +25,24 @@ pub fn point_inside_by(corners: &[f64], ends: &[usize], t: &[f64], rule: FillRul
     ensures { λ r. ⌜ r ≡ pointInside (rings (now (corners .entry)) (now (ends .entry))) rule p ⌝ }
 {
     rule.inside(winding_by(corners, ends, t, p))
+}
+
+// The same, with the first n numbers of s the sides across p's height; where s has no room for them, by the outline.
+pub fn point_inside_at(
+    corners: &[f64],
+    ends: &[usize],
+    s: &[f64],
+    n: usize,
+    rule: FillRule,
+    p: P,
+) -> bool
+    requires { ⌜ Layout (now corners) (now ends) × Gathered (rings (now corners) (now ends)) (p .y) n (now s) ⌝ }
+    ensures { λ r. ⌜ r ≡ pointInside (rings (now (corners .entry)) (now (ends .entry))) rule p ⌝ }
+{
+    if n <= s.len() {
+        return rule.inside(crossed(&s[0..n], p));
+    }
+    point_inside(corners, ends, rule, p)
 }
 
 // Whether the points between a and b, one each `step`, are all inside.

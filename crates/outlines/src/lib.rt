@@ -2,6 +2,7 @@
 pub mod heights;
 pub mod inside;
 pub mod rule;
+pub mod sides;
 pub mod winding;
 
 pub use rule::FillRule;

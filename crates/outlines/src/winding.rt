@@ -16,7 +16,7 @@ use geom::cross;
 use geom::sewing::corner;
 
 // What the edge from a to b adds.
-fn edge(a: P, b: P, p: P) -> i64
+pub fn edge(a: P, b: P, p: P) -> i64
     ensures { λ r. ⌜ r ≡ edge a b p ⌝ }
 {
     if a.y <= p.y {

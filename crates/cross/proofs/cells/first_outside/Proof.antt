@@ -11,19 +11,20 @@ use Rattle.cross.proofs.cells.first_outside.Statement.{statement}
 use Rattle.cross.proofs.cells.first_outside.Tie as tie
 
 abbrev Inv-loop : tie.InvT-loop
-Inv-loop corners ends rule g y i n j₀ j = (i ≤ j) × (j ≤ g .columns) × ((t : ℕ) → i ≤ t → t < j → cellInside (rings corners ends) rule g y t ≡ true)
+Inv-loop corners ends sides size rule g y i n j₀ j = (i ≤ j) × (j ≤ g .columns) × ((t : ℕ) → i ≤ t → t < j → cellInside (rings corners ends) rule g y t ≡ true)
 
 abbrev μ-loop : tie.MeasureT-loop
-μ-loop corners ends rule g y i n j₀ j = g .columns - j
+μ-loop corners ends sides size rule g y i n j₀ j = g .columns - j
 
 loop-holds : tie.Need-loop-holds Inv-loop μ-loop
-loop-holds c = (search needs, c .before .before .pre .2, λ t a b. absurd (omega arith))
+loop-holds c = (search needs, c .before .before .before .pre .2, λ t a b. absurd (omega arith))
 
 cell-inside-requires : tie.Need-cell-inside-requires Inv-loop μ-loop
-cell-inside-requires c κs = (c .before .before .before .before .pre .0, c .before .before .before .before .pre .1, search needs)
+cell-inside-requires c κs = (c .before .before .before .before .before .pre .0, c .before .before .before .before .before .pre .1, search needs)
 
 loop-again : tie.Need-loop-again Inv-loop μ-loop
-loop-again c = let a = c .before .before .before .before .before .before .args in let l = c .before .before .before .loop in
+loop-again c =
+    let a = c .before .before .before .before .before .before .before .args in let l = c .before .before .before .loop in
     (omega arith, search needs, all-on (cellInside (rings (a .corners .now) (a .ends .now)) (a .rule) (a .g) (a .y)) (a .i) (l .j) (l .inv .2) (sym (c .before .cell-inside .ensures) ∙ c .if1 .taken))
 
 returns : tie.Need-returns Inv-loop μ-loop

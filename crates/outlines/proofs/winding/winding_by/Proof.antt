@@ -59,7 +59,7 @@ ring-requires : tie.Need-ring-requires Inv-loop μ-loop
 ring-requires c κs =
     let e = getD (c .before .before .before .before .before .before .before .args .ends .now) (c .before .before .before .loop .k) 0 in
     let t = rising-turn (c .before .before .before .loop .a) (c .before .before .before .before .before .before .before .args .ends .now) (c .before .before .before .loop .k) (length (c .before .before .before .before .before .before .before .args .corners .now) / 2) (c .before .before .before .loop .inv .2) (c .before .before .loop-test .taken) in
-    (part-even (c .before .before .before .before .before .before .before .args .p) (c .before .before .before .before .before .before .before .args .ends .now) (c .before .before .before .before .before .before .before .args .corners .now) (c .before .before .before .loop .a) e (t .from) (omega (arith, t .to)), omega (arith, t .from, t .to, length-take (2 * e - 2 * c .before .before .before .loop .a) (drop (2 * c .before .before .before .loop .a) (c .before .before .before .before .before .before .before .args .corners .now))), ring-heights (c .before .before .before .loop .a) e (c .before .before .before .before .before .before .before .args .corners .now) (c .before .before .before .before .before .before .before .args .t .now) (c .before .before .before .before .before .before .before .pre .heights))
+    (part-even (c .before .before .before .before .before .before .before .args .corners .now) (c .before .before .before .loop .a) e (t .from) (omega (arith, t .to)), omega (arith, t .from, t .to, length-take (2 * e - 2 * c .before .before .before .loop .a) (drop (2 * c .before .before .before .loop .a) (c .before .before .before .before .before .before .before .args .corners .now))), ring-heights (c .before .before .before .loop .a) e (c .before .before .before .before .before .before .before .args .corners .now) (c .before .before .before .before .before .before .before .args .t .now) (c .before .before .before .before .before .before .before .pre .heights))
 
 add-w : tie.Need-add-w Inv-loop μ-loop
 add-w c =
