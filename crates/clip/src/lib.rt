@@ -5,6 +5,7 @@ ghost use lib.ListN.{length};
 ghost use Rattle.seqs.specs.Slices.{put};
 ghost use Rattle.refusal.specs.Refusal.{DONE};
 ghost use Rattle.geom.specs.Outline.{rings, Layout};
+ghost use Rattle.outlines.specs.Heights.{Measured};
 ghost use Rattle.outlines.specs.Inside.{pointInside};
 ghost use Rattle.geom.specs.Sewing.{flat};
 ghost use Rattle.rules.specs.Calls.{sewnPoints};
@@ -15,8 +16,10 @@ use geom::P;
 use geom::sewing::corner;
 use geom::sewing::put_point;
 use outlines::FillRule;
-use outlines::inside::point_inside;
-use outlines::inside::segment_inside;
+use outlines::heights::HEIGHTS;
+use outlines::heights::heights;
+use outlines::inside::point_inside_by;
+use outlines::inside::segment_inside_by;
 use patterns_rules::Count;
 use patterns_rules::Lines;
 use refusal::DONE;
@@ -26,18 +29,19 @@ use refusal::ROOM;
 fn piece_inside(
     corners: &[f64],
     ends: &[usize],
+    h: &[f64],
     rule: FillRule,
     p: P,
     was: bool,
     q: P,
     is: bool,
 ) -> bool
-    requires { ⌜ Layout (now corners) (now ends) × (was ≡ pointInside (rings (now corners) (now ends)) rule p) × (is ≡ pointInside (rings (now corners) (now ends)) rule q) ⌝ }
+    requires { ⌜ Measured (now corners) (now ends) (now h) × (was ≡ pointInside (rings (now corners) (now ends)) rule p) × (is ≡ pointInside (rings (now corners) (now ends)) rule q) ⌝ }
     ensures { λ r. ⌜ r ≡ pieceInside (rings (now (corners .entry)) (now (ends .entry))) rule p q ⌝ }
 {
     if was {
         if is {
-            return segment_inside(corners, ends, rule, p, q, 2.0);
+            return segment_inside_by(corners, ends, h, rule, p, q, 2.0);
         }
         return false;
     }
@@ -71,8 +75,8 @@ fn ended(kept: bool, on: bool, n: usize) -> usize
 }
 
 // How many runs the line has inside, and how many points they have.
-fn count(line: &[f64], corners: &[f64], ends: &[usize], rule: FillRule) -> Count
-    requires { ⌜ Layout (now corners) (now ends) ⌝ }
+fn count(line: &[f64], corners: &[f64], ends: &[usize], h: &[f64], rule: FillRule) -> Count
+    requires { ⌜ Measured (now corners) (now ends) (now h) ⌝ }
     ensures { λ r. ⌜ r ≡ countOf (clipped (now (line .entry)) (now (corners .entry)) (now (ends .entry)) rule) ⌝ }
 {
     let n = line.len();
@@ -83,15 +87,15 @@ fn count(line: &[f64], corners: &[f64], ends: &[usize], rule: FillRule) -> Count
         };
     }
     let mut p = corner(line, 0);
-    let mut was = point_inside(corners, ends, rule, p);
+    let mut was = point_inside_by(corners, ends, h, rule, p);
     let mut on = false;
     let mut s = 0;
     let mut at = 0;
     let mut i = 2;
     while i + 1 < n {
         let q = corner(line, i);
-        let is = point_inside(corners, ends, rule, q);
-        let kept = piece_inside(corners, ends, rule, p, was, q, is);
+        let is = point_inside_by(corners, ends, h, rule, q);
+        let kept = piece_inside(corners, ends, h, rule, p, was, q, is);
         s += ended(kept, on, at);
         at += added(kept, on, p, q);
         on = kept;
@@ -142,9 +146,10 @@ fn write(
     line: &[f64],
     corners: &[f64],
     ends: &[usize],
+    h: &[f64],
     rule: FillRule,
 ) -> Count
-    requires { ⌜ Layout (now corners) (now ends) × (length (flat (sewnPoints (clipped (now line) (now corners) (now ends) rule))) ≤ length (now out)) × (length (clipped (now line) (now corners) (now ends) rule) ≤ length (now stops)) ⌝ }
+    requires { ⌜ Measured (now corners) (now ends) (now h) × (length (flat (sewnPoints (clipped (now line) (now corners) (now ends) rule))) ≤ length (now out)) × (length (clipped (now line) (now corners) (now ends) rule) ≤ length (now stops)) ⌝ }
     ensures { λ r. ⌜ (r ≡ countOf (clipped (now (line .entry)) (now (corners .entry)) (now (ends .entry)) rule)) × (now (out .exit) ≡ leftPoints DONE (clipped (now (line .entry)) (now (corners .entry)) (now (ends .entry)) rule) (now (out .entry))) × (now (stops .exit) ≡ leftEnds DONE (clipped (now (line .entry)) (now (corners .entry)) (now (ends .entry)) rule) (now (stops .entry))) ⌝ }
 {
     let n = line.len();
@@ -155,15 +160,15 @@ fn write(
         };
     }
     let mut p = corner(line, 0);
-    let mut was = point_inside(corners, ends, rule, p);
+    let mut was = point_inside_by(corners, ends, h, rule, p);
     let mut on = false;
     let mut s = 0;
     let mut at = 0;
     let mut i = 2;
     while i + 1 < n {
         let q = corner(line, i);
-        let is = point_inside(corners, ends, rule, q);
-        let kept = piece_inside(corners, ends, rule, p, was, q, is);
+        let is = point_inside_by(corners, ends, h, rule, q);
+        let kept = piece_inside(corners, ends, h, rule, p, was, q, is);
         put_ended(stops, s, kept, on, at);
         put_added(out, at, kept, on, p, q);
         s += ended(kept, on, at);
@@ -180,22 +185,23 @@ fn write(
     }
 }
 
-// The runs and their ends, or ROOM and nothing. Each piece adds two points and one run at most: where that has room, nothing is counted first.
-pub fn clip_inside(
+// The same, with the outline's heights. Each piece adds two points and one run at most: where that has room, nothing is counted first.
+fn clip_by(
     line: &[f64],
     corners: &[f64],
     ends: &[usize],
+    h: &[f64],
     rule: FillRule,
     out: &mut [f64],
     stops: &mut [usize],
 ) -> Lines
-    requires { ⌜ Layout (now corners) (now ends) ⌝ }
+    requires { ⌜ Measured (now corners) (now ends) (now h) ⌝ }
     ensures { λ r. ⌜ (r ≡ saidLines (roomFor (clipped (now (line .entry)) (now (corners .entry)) (now (ends .entry)) rule) (length (now (out .entry))) (length (now (stops .entry)))) (clipped (now (line .entry)) (now (corners .entry)) (now (ends .entry)) rule)) × (now (out .exit) ≡ leftPoints (roomFor (clipped (now (line .entry)) (now (corners .entry)) (now (ends .entry)) rule) (length (now (out .entry))) (length (now (stops .entry)))) (clipped (now (line .entry)) (now (corners .entry)) (now (ends .entry)) rule) (now (out .entry))) × (now (stops .exit) ≡ leftEnds (roomFor (clipped (now (line .entry)) (now (corners .entry)) (now (ends .entry)) rule) (length (now (out .entry))) (length (now (stops .entry)))) (clipped (now (line .entry)) (now (corners .entry)) (now (ends .entry)) rule) (now (stops .entry))) ⌝ }
 {
     let n = line.len();
     if n <= out.len() / 2 {
         if n / 2 <= stops.len() {
-            let c = write(out, stops, line, corners, ends, rule);
+            let c = write(out, stops, line, corners, ends, h, rule);
             return Lines {
                 answer: DONE,
                 lines: c.lines as u64,
@@ -203,7 +209,7 @@ pub fn clip_inside(
             };
         }
     }
-    let c = count(line, corners, ends, rule);
+    let c = count(line, corners, ends, h, rule);
     if c.points > out.len() / 2 {
         return Lines {
             answer: ROOM,
@@ -218,10 +224,27 @@ pub fn clip_inside(
             points: 0,
         };
     }
-    write(out, stops, line, corners, ends, rule);
+    write(out, stops, line, corners, ends, h, rule);
     Lines {
         answer: DONE,
         lines: c.lines as u64,
         points: c.points as u64,
     }
+}
+
+// The runs and their ends, or ROOM and nothing.
+pub fn clip_inside(
+    line: &[f64],
+    corners: &[f64],
+    ends: &[usize],
+    rule: FillRule,
+    out: &mut [f64],
+    stops: &mut [usize],
+) -> Lines
+    requires { ⌜ Layout (now corners) (now ends) ⌝ }
+    ensures { λ r. ⌜ (r ≡ saidLines (roomFor (clipped (now (line .entry)) (now (corners .entry)) (now (ends .entry)) rule) (length (now (out .entry))) (length (now (stops .entry)))) (clipped (now (line .entry)) (now (corners .entry)) (now (ends .entry)) rule)) × (now (out .exit) ≡ leftPoints (roomFor (clipped (now (line .entry)) (now (corners .entry)) (now (ends .entry)) rule) (length (now (out .entry))) (length (now (stops .entry)))) (clipped (now (line .entry)) (now (corners .entry)) (now (ends .entry)) rule) (now (out .entry))) × (now (stops .exit) ≡ leftEnds (roomFor (clipped (now (line .entry)) (now (corners .entry)) (now (ends .entry)) rule) (length (now (out .entry))) (length (now (stops .entry)))) (clipped (now (line .entry)) (now (corners .entry)) (now (ends .entry)) rule) (now (stops .entry))) ⌝ }
+{
+    let mut h = [0.0f64; HEIGHTS];
+    heights(corners, &mut h);
+    clip_by(line, corners, ends, &h, rule, out, stops)
 }

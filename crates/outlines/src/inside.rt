@@ -45,7 +45,31 @@ pub fn point_inside_at(
     point_inside(corners, ends, rule, p)
 }
 
-// Whether the points between a and b, one each `step`, are all inside.
+// Whether the points between a and b, one each `step`, are all inside, with the outline's heights.
+pub fn segment_inside_by(
+    corners: &[f64],
+    ends: &[usize],
+    t: &[f64],
+    rule: FillRule,
+    a: P,
+    b: P,
+    step: f64,
+) -> bool
+    requires { ⌜ Measured (now corners) (now ends) (now t) ⌝ }
+    ensures { λ r. ⌜ r ≡ segmentInside (rings (now (corners .entry)) (now (ends .entry))) rule a b step ⌝ }
+{
+    let n = steps(a.dist(b), step);
+    let mut i = 1;
+    while i < n {
+        if point_inside_by(corners, ends, t, rule, along(a, b, n, i)) {
+            i += 1;
+            continue;
+        }
+        return false;
+    }
+    true
+}
+
 pub fn segment_inside(
     corners: &[f64],
     ends: &[usize],
@@ -57,14 +81,5 @@ pub fn segment_inside(
     requires { ⌜ Layout (now corners) (now ends) ⌝ }
     ensures { λ r. ⌜ r ≡ segmentInside (rings (now (corners .entry)) (now (ends .entry))) rule a b step ⌝ }
 {
-    let n = steps(a.dist(b), step);
-    let mut i = 1;
-    while i < n {
-        if point_inside(corners, ends, rule, along(a, b, n, i)) {
-            i += 1;
-            continue;
-        }
-        return false;
-    }
-    true
+    segment_inside_by(corners, ends, &corners[0..0], rule, a, b, step)
 }
