@@ -90,19 +90,23 @@ fn right_of(right: f64, p: P) -> bool
 }
 
 // Whether the sides between the corners of l, which are of block b, add nothing: by the block's heights where t has them.
+// All three are read first: then the tests compile to one branch.
 fn passed(l: &[f64], t: &[f64], b: usize, p: P) -> bool
     requires { ⌜ Block b (points (now l)) (now t) ⌝ }
     ensures { λ r. ⌜ (r ≡ true → chain p (points (now (l .entry))) ≡ pos 0) ⌝ }
 {
     if b < t.len() / 3 {
         let k = 3 * b;
-        if p.y < t[k] {
+        let lo = t[k];
+        let hi = t[k + 1];
+        let right = t[k + 2];
+        if p.y < lo {
             return true;
         }
-        if t[k + 1] <= p.y {
+        if hi <= p.y {
             return true;
         }
-        return right_of(t[k + 2], p);
+        return right_of(right, p);
     }
     one_side(l, p.y)
 }
