@@ -79,21 +79,21 @@ fn sides_of(n: u64, max: f64) -> Alike
     }
 }
 
-// Sides like the one from p to q: those with one point, those like s, or others, which are looked at anew.
+// Sides like the one from p to q: those like s, those with one point, or others, which are looked at anew.
 fn side_of(p: P, q: P, max: f64, one: Alike, s: Alike) -> Alike
     requires { ⌜ Told max one × Told max s ⌝ }
     ensures { λ r. ⌜ Told max r × (r .n ≡ steps (dist p q) max) ⌝ }
 {
     let v = p.minus(q);
     let d = v.dot(v);
-    if one.from < d {
-        if d < one.to {
-            return one;
-        }
-    }
     if s.from < d {
         if d < s.to {
             return s;
+        }
+    }
+    if one.from < d {
+        if d < one.to {
+            return one;
         }
     }
     sides_of(points_of(d, max), max)

@@ -1,4 +1,4 @@
--- `side_of` meets its contract: sides of one point or the last longer side tell, or it is counted anew. Assumes nothing.
+-- `side_of` meets its contract: the last longer side or sides of one point tell, or it is counted anew. Assumes nothing.
 use Rattle.styles.specs.SquareLaws.{side-steps, side-told}
 use mathlib.Core.Path.{_∙_}
 use borrow.Author.Needs.{needs}
@@ -8,12 +8,12 @@ use Rattle.styles.proofs.split.side_of.Tie as tie
 returns : tie.Need-returns
 returns c =
     let a = c .before .before .before .before .before .before .args in
-    (c .before .before .before .before .before .before .pre .0, side-told (a .p) (a .q) _ _ (a .max) (c .before .before .before .before .before .minus .ensures) (c .before .before .before .before .dot .ensures) (a .one) (c .before .before .before .before .before .before .pre .0) (c .before .before .if1 .taken) (c .if2 .taken))
+    (c .before .before .before .before .before .before .pre .1, side-told (a .p) (a .q) _ _ (a .max) (c .before .before .before .before .before .minus .ensures) (c .before .before .before .before .dot .ensures) (a .s) (c .before .before .before .before .before .before .pre .1) (c .before .before .if1 .taken) (c .if2 .taken))
 
 returns-2 : tie.Need-returns-2
 returns-2 c =
     let a = c .before .before .before .before .before .before .before .before .args in
-    (c .before .before .before .before .before .before .before .before .pre .1, side-told (a .p) (a .q) _ _ (a .max) (c .before .before .before .before .before .before .before .minus .ensures) (c .before .before .before .before .before .before .dot .ensures) (a .s) (c .before .before .before .before .before .before .before .before .pre .1) (c .before .before .if3 .taken) (c .if4 .taken))
+    (c .before .before .before .before .before .before .before .before .pre .0, side-told (a .p) (a .q) _ _ (a .max) (c .before .before .before .before .before .before .before .minus .ensures) (c .before .before .before .before .before .before .dot .ensures) (a .one) (c .before .before .before .before .before .before .before .before .pre .0) (c .before .before .if3 .taken) (c .if4 .taken))
 
 returns-3 : tie.Need-returns-3
 returns-3 c =
