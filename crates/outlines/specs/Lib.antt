@@ -5,5 +5,5 @@ pub mod Heights
 pub mod Sides
 pub mod Inside
 pub mod WindingLaws
-pub mod SidesLaws
 pub mod Ks
+pub mod SidesLaws
