@@ -15,11 +15,14 @@ use patterns_rules::Run;
 // Room for 64 sides; a row that has more goes by the outline.
 pub const SIDES: usize = 256;
 
-// The sides across the centres of the row at y.
+// The sides across the centres of the row at y. For one or two cells that costs more than it saves: those go by the outline.
 pub fn row_sides(corners: &[f64], ends: &[usize], sides: &mut [f64], g: Grid, y: f64) -> usize
     requires { ⌜ Layout (now corners) (now ends) ⌝ }
     ensures { λ r. ⌜ Crossed (now (corners .entry)) (now (ends .entry)) (now (sides .exit)) r g y ⌝ }
 {
+    if g.columns < 3 {
+        return sides.len() + 1;
+    }
     gather(corners, ends, y + g.cell * 0.5, sides)
 }
 
