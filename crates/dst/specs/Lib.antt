@@ -7,3 +7,5 @@ pub mod Lifted
 pub mod RoundingLaws
 pub mod LiftedLaws
 pub mod ThreadLaws
+pub mod RecordLaws
+pub mod Examples
