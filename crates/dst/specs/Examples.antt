@@ -4,8 +4,8 @@ use mathlib.Core.Path.{_≡_, refl}
 use mathlib.Core.Bool.{false, true}
 use mathlib.Core.List.{[], _∷_}
 use lib.IntN.{pos, negsuc}
-use lib.Ieee.{fin, neg, round}
-use Rattle.numbers.specs.Num.{half, literal}
+use lib.Ieee.{fin, neg}
+use Rattle.numbers.specs.Num.{half}
 use Rattle.numbers.specs.Order.{negative}
 use Rattle.numbers.specs.Value.{unitsOf}
 use Rattle.geom.specs.Point.{point}

@@ -4,9 +4,10 @@ use native.Mathlib.Nat.{mul-zero, mul-le-mul-right, zero-div, div-le-of-le-mul}
 use native.Mathlib.Omega.{arith}
 use mathlib.Core.Path.{_≡_, refl}
 use mathlib.Core.Logic.{inl, inr}
-use lib.IntN.{ℤ, pos, negsuc, negℤ, natAbs, _+ℤ_, _-ℤ_}
+use lib.IntN.{pos, negℤ, natAbs, _+ℤ_, _-ℤ_}
 use Rattle.seqs.specs.Ints.{above, below, one-side, same-int, add-parts, sub-parts-is, abs-parts}
 use Rattle.dst.specs.Records.{lift}
+use Rattle.dst.specs.RecordLaws.{lift-is}
 use Rattle.dst.specs.Thread.{origin, quotient, cutAt}
 use Rattle.dst.specs.Lifted.{lowered, wholeAt}
 
@@ -70,10 +71,6 @@ module _ (a b n i : ℕ) where
       rw (gap-down a b h, quotient-down (a - b) i n) (same-int (lowered (a - q)) (lowered a +ℤ negℤ (pos q)) (omega (arith, lowered-parts (a - q), lowered-parts a, add-parts (lowered a) (negℤ (pos q)), neg-above q, neg-below q)))
 
 -- ---- a move, lifted by 121
-
-lift-is : (z : ℤ) → lift z ≡ 121 + above z - below z
-lift-is (pos n) = omega arith
-lift-is (negsuc n) = omega arith
 
 pub lift-gap : (a b : ℕ) → lift (lowered b -ℤ lowered a) ≡ 121 + b - a
 lift-gap a b = omega (arith, lift-is (lowered b -ℤ lowered a), gap-parts a b)

@@ -1,17 +1,20 @@
 -- A record says its move: the weights that are added, and the rest, make it up, so no other move of its kind has that record. Assumes nothing.
-use Prim.Native.Nat.{ℕ, suc, _+_, _*_, _/_, _%_, _≤_, _<_}
+use Prim.Native.Nat.{ℕ, _+_, _-_, _*_, _/_, _%_, _≤_, _<_}
 use native.Mathlib.Nat.{div-one, div-add-mod', div-div-eq-div-mul}
 use native.Mathlib.Omega.{arith}
-use mathlib.Core.Path.{_≡_, refl, ap, _∙_}
+use mathlib.Core.Path.{_≡_, refl, sym, ap, _∙_}
 use mathlib.Core.Bool.{Bool, true, false}
 use mathlib.Core.Logic.{_⊎_, inl, inr}
-use mathlib.Core.List.{List, [], _∷_}
+use mathlib.Core.List.{List, []}
 use lib.Dec.{eqb}
-use lib.IntN.{ℤ, pos, negsuc, natAbs}
+use lib.ListN.{getD}
+use lib.IntN.{ℤ, pos, negsuc, natAbs, _-ℤ_}
+use Rattle.seqs.specs.Ints.{above, below, same-int, sub-parts-is, abs-parts}
 use borrow.Author.Tests.{eqb-true, eqb-false}
 use Rattle.dst.specs.declared.records.Kind.{Kind}
 use Rattle.dst.specs.declared.records.Kind.the-variants.{Stitch, Jump}
-use Rattle.dst.specs.Records.{lift, bit, plus, minus, lower, kindBits, third, bytesOf, recordOf}
+use Rattle.dst.specs.Said.{bitAt, saidX, saidY, jumps}
+use Rattle.dst.specs.Records.{lift, bit, plus, minus, lower, third, bytesOf, recordOf}
 
 -- ---- a digit by its two bits
 
@@ -107,3 +110,79 @@ bits-of a b c d e f g h la lb lc ld le lf lg lh =
       is6 = rw (d4, d8, d16, d32, d64) at (s6 .0);
       is7 = (rw (d4, d8, d16, d32, d64, d128) at (ap (λ k. k % 2) (s6 .1))) ∙ omega arith;
     }
+
+lower-bits : (lo hi x y : ℕ) → Bits (lower lo hi x y) (plus lo x) (minus lo x) (plus hi x) (minus hi x) (minus hi y) (plus hi y) (minus lo y) (plus lo y)
+unfolding lower
+lower-bits lo hi x y =
+    let a = digit lo x .one in
+    let b = digit hi x .one in
+    let c = digit hi y .one in
+    let d = digit lo y .one in
+    let e : lower lo hi x y ≡ plus lo x + 2 * minus lo x + 4 * plus hi x + 8 * minus hi x + 16 * minus hi y + 32 * plus hi y + 64 * minus lo y + 128 * plus lo y = omega arith in
+    rw e (bits-of (plus lo x) (minus lo x) (plus hi x) (minus hi x) (minus hi y) (plus hi y) (minus lo y) (plus lo y) (omega arith) (omega arith) (omega arith) (omega arith) (omega arith) (omega arith) (omega arith) (omega arith))
+
+third-bits : (k : Kind) (x y : ℕ) → Bits (third k x y) 1 1 (plus 81 x) (minus 81 x) (minus 81 y) (plus 81 y) 0 (jumps k)
+unfolding third
+third-bits Stitch x y =
+    let a = digit 81 x .one in
+    let b = digit 81 y .one in
+    let e : third Stitch x y ≡ 1 + 2 * 1 + 4 * plus 81 x + 8 * minus 81 x + 16 * minus 81 y + 32 * plus 81 y + 64 * 0 + 128 * 0 = omega arith in
+    rw e (bits-of 1 1 (plus 81 x) (minus 81 x) (minus 81 y) (plus 81 y) 0 0 (omega arith) (omega arith) (omega arith) (omega arith) (omega arith) (omega arith) (omega arith) (omega arith))
+third-bits Jump x y =
+    let a = digit 81 x .one in
+    let b = digit 81 y .one in
+    let e : third Jump x y ≡ 1 + 2 * 1 + 4 * plus 81 x + 8 * minus 81 x + 16 * minus 81 y + 32 * plus 81 y + 64 * 0 + 128 * 1 = omega arith in
+    rw e (bits-of 1 1 (plus 81 x) (minus 81 x) (minus 81 y) (plus 81 y) 0 1 (omega arith) (omega arith) (omega arith) (omega arith) (omega arith) (omega arith) (omega arith) (omega arith))
+
+-- ---- a record says its move and its kind
+
+pub lift-is : (z : ℤ) → lift z ≡ 121 + above z - below z
+lift-is (pos n) = omega arith
+lift-is (negsuc n) = omega arith
+
+lift-most : (z : ℤ) → natAbs z ≤ 121 → lift z ≤ 242
+lift-most z h = omega (arith, lift-is z, abs-parts z)
+
+-- a move by what is added to it and taken off it
+told : (z : ℤ) (p m : ℕ) → natAbs z ≤ 121 → lift z + m ≡ 121 + p → pos p -ℤ pos m ≡ z
+told z p m h e = same-int (pos p -ℤ pos m) z (omega (arith, sub-parts-is (pos p) (pos m), lift-is z, abs-parts z))
+
+module _ (k : Kind) (dx dy : ℤ) (hx : natAbs dx ≤ 121) (hy : natAbs dy ≤ 121) where
+  pub says-x : saidX (lower 1 9 (lift dx) (lift dy)) (lower 3 27 (lift dx) (lift dy)) (third k (lift dx) (lift dy)) ≡ dx
+  unfolding saidX
+  says-x =
+      let x = lift dx in
+      let y = lift dy in
+      let a = lower-bits 1 9 x y in
+      let b = lower-bits 3 27 x y in
+      let c = third-bits k x y in
+      rw (div-one (lower 1 9 x y), div-one (lower 3 27 x y), a .is0, a .is1, a .is2, a .is3, b .is0, b .is1, b .is2, b .is3, c .is2, c .is3) (told dx _ _ hx (digits-say x (lift-most dx hx)))
+
+  pub says-y : saidY (lower 1 9 (lift dx) (lift dy)) (lower 3 27 (lift dx) (lift dy)) (third k (lift dx) (lift dy)) ≡ dy
+  unfolding saidY
+  says-y =
+      let x = lift dx in
+      let y = lift dy in
+      let a = lower-bits 1 9 x y in
+      let b = lower-bits 3 27 x y in
+      let c = third-bits k x y in
+      rw (a .is4, a .is5, a .is6, a .is7, b .is4, b .is5, b .is6, b .is7, c .is4, c .is5) (told dy _ _ hy (digits-say y (lift-most dy hy)))
+
+  -- the two fixed bits, no stop, and the jump
+  pub says-kind : let c = third k (lift dx) (lift dy) in (bitAt 0 c ≡ 1) × (bitAt 1 c ≡ 1) × (bitAt 6 c ≡ 0) × (bitAt 7 c ≡ jumps k)
+  says-kind = let c = third-bits k (lift dx) (lift dy) in (rw (div-one (third k (lift dx) (lift dy))) (c .is0), c .is1, c .is6, c .is7)
+
+jumps-one : (k k′ : Kind) → jumps k ≡ jumps k′ → k ≡ k′
+jumps-one Stitch Stitch e = refl
+jumps-one Stitch Jump e = absurd (omega arith)
+jumps-one Jump Stitch e = absurd (omega arith)
+jumps-one Jump Jump e = refl
+
+-- no two moves, and no two kinds, have one record
+pub one-record : (k k′ : Kind) (dx dy dx′ dy′ : ℤ) → natAbs dx ≤ 121 → natAbs dy ≤ 121 → natAbs dx′ ≤ 121 → natAbs dy′ ≤ 121 → recordOf k dx dy ≡ recordOf k′ dx′ dy′ → (k ≡ k′) × (dx ≡ dx′) × (dy ≡ dy′)
+unfolding recordOf bytesOf
+one-record k k′ dx dy dx′ dy′ hx hy hx′ hy′ e = (
+  jumps-one k k′ (sym (says-kind k dx dy hx hy .3) ∙ ap (λ (l : List ℕ). bitAt 7 (getD l 2 0)) e ∙ says-kind k′ dx′ dy′ hx′ hy′ .3),
+  sym (says-x k dx dy hx hy) ∙ ap (λ (l : List ℕ). saidX (getD l 0 0) (getD l 1 0) (getD l 2 0)) e ∙ says-x k′ dx′ dy′ hx′ hy′,
+  sym (says-y k dx dy hx hy) ∙ ap (λ (l : List ℕ). saidY (getD l 0 0) (getD l 1 0) (getD l 2 0)) e ∙ says-y k′ dx′ dy′ hx′ hy′,
+)

@@ -150,6 +150,30 @@ module _ (a b : Whole) where
       let f : 1 + (parts d - 1) ≡ parts d = omega (arith, parts-some d) in
       ap (λ (l : ℕ). endOf a (cutsFrom a d (parts d) 1 l)) e ∙ cuts-end a d (parts d) a 1 (parts d - 1) ∙ ap (cut a d (parts d)) f ∙ cut-last a b (parts d) (parts-some d)
 
+-- ---- every record's move is at most 121 either way
+
+abbrev pub Steps : Whole → List Mark → Type 0
+Steps a [] = Unit {0}
+Steps a (m ∷ ms) = (natAbs (move a (m .to) .x) ≤ 121) × (natAbs (move a (m .to) .y) ≤ 121) × Steps (m .to) ms
+
+cuts-steps : (a b : Whole) (i left : ℕ) → let d = move a b in Steps (cut a d (parts d) i) (cutsFrom a d (parts d) (i + 1) left)
+unfolding cutsFrom
+cuts-steps a b i zero = tt
+cuts-steps a b i (suc left) = let f = part-fits a b i in (f .0, f .1, cuts-steps a b (i + 1) left)
+
+way-steps : (a b : Whole) → Steps a (way a b)
+unfolding way
+way-steps a b = let d = move a b in rw (cut-first (a .x) (d .x) (parts d), cut-first (a .y) (d .y) (parts d)) at (cuts-steps a b 0 (parts d))
+
+steps-append : (a : Whole) (ms ns : List Mark) → Steps a ms → Steps (endOf a ms) ns → Steps a (ms ++ ns)
+steps-append a [] ns h k = k
+steps-append a (m ∷ ms) ns h k = (h .0, h .1, steps-append (m .to) ms ns (h .2) k)
+
+pub thread-steps : (a : Whole) (ps : List P) → Steps a (thread a ps)
+unfolding thread
+thread-steps a [] = tt
+thread-steps a (p ∷ ps) = let b = roundedPoint p in steps-append a (way a b) (thread b ps) (way-steps a b) (rw (way-end a b) (thread-steps b ps))
+
 -- ---- records
 
 pub record-length : (k : Kind) (dx dy : ℤ) → length (recordOf k dx dy) ≡ 3
