@@ -3,14 +3,12 @@
 use super::{Function, Operands, Outcome, UNTOUCHED, no_tie};
 use crate::dst;
 use crate::expect::{self, DONE, LAYOUT, NUMBER, ROOM};
-use crate::inputs::lines;
 use crate::inputs::numbers::{beside, coordinate, spoil};
 use crate::ours::machine as ours;
 use crate::rng::Rng;
-use std::cell::RefCell;
 
 pub fn functions() -> Vec<Function> {
-    vec![written()]
+    vec![Function::new("dst", make, owed, gave, no_tie).usually(20_000)]
 }
 
 struct Stitches {
@@ -192,15 +190,4 @@ fn any(rng: &mut Rng) -> Vec<f64> {
 /// A multiple of a half, or its neighbour.
 fn halves(rng: &mut Rng, most: i64) -> f64 {
     beside(rng.range(-most, most) as f64 / 2.0, rng.range(-1, 1))
-}
-
-fn written() -> Function {
-    let out = RefCell::new(vec![0; 20_000]);
-    Function::new("dst", make, owed, gave, no_tie)
-        .usually(20_000)
-        .timed(
-            |rng| lines::traced(rng, 1000),
-            |line| dst::file(line),
-            move |line| ours::dst(line, &mut out.borrow_mut(), &mut 0),
-        )
 }
