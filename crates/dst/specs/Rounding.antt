@@ -8,9 +8,7 @@ use Rattle.numbers.specs.Value.{unitsOf}
 
 -- the magnitude u / 2 ^ 1074 and a half, cut to a whole number
 unfoldable pub nearestWhole : Float → ℕ
-unfolding unitsOf
 nearestWhole x = (2 * unitsOf x + 2 ^ 1074) / (2 * 2 ^ 1074)
 
 unfoldable pub rounded : Float → ℤ
-unfolding nearestWhole negative
 rounded x = cond (negative x) (negℤ (pos (nearestWhole x))) (pos (nearestWhole x))

@@ -34,7 +34,7 @@ pub record Mark : Type 0 where
 
 -- ---- a move over 121 either way is cut
 
--- the fewest parts of at most 121: of a way of n, and of a move, whose zero is still a part
+-- the fewest parts of at most 121: of a way of n, and of a move; no move is still a part
 abbrev pub fewest : ℕ → ℕ
 fewest n = (n + 120) / 121
 
@@ -63,20 +63,17 @@ cutsFrom a d n i zero = []
 cutsFrom a d n i (suc left) = record { kind = kindAt i n; to = cut a d n i } ∷ cutsFrom a d n (i + 1) left
 
 unfoldable pub way : Whole → Whole → List Mark
-unfolding parts cutsFrom
 way a b = cutsFrom a (move a b) (parts (move a b)) 1 (parts (move a b))
 
 -- ---- all points
 
 -- from a on
 unfoldable pub thread : Whole → List P → List Mark
-unfolding way roundedPoint
 thread a [] = []
 thread a (p ∷ ps) = way a (roundedPoint p) ++ thread (roundedPoint p) ps
 
 -- the records of marks, the needle standing at a
 unfoldable pub recordsFrom : Whole → List Mark → List ℕ
-unfolding recordOf
 recordsFrom a [] = []
 recordsFrom a (m ∷ ms) = recordOf (m .kind) (move a (m .to) .x) (move a (m .to) .y) ++ recordsFrom (m .to) ms
 
@@ -87,5 +84,4 @@ endOf a (m ∷ ms) = endOf (m .to) ms
 
 -- the first move starts from (0, 0)
 unfoldable pub dstBytes : List P → List ℕ
-unfolding thread recordsFrom
 dstBytes ps = recordsFrom origin (thread origin ps) ++ endRecord
