@@ -29,34 +29,34 @@ loop-holds c =
     (omega arith, omega arith, c .before .before .pre .0 .ax-fits, c .before .before .pre .0 .ay-fits, sym (cut-first (lowered (a .ax)) (lowered (a .bx) -ℤ lowered (a .ax)) (c .parts .result)), sym (cut-first (lowered (a .ay)) (lowered (a .by) -ℤ lowered (a .ay)) (c .parts .result)), front-at (way-is u v (c .parts .result) (c .parts .ensures .0)) (front-from (a .out .now) (recordsFrom u (way u v)) (a .at) (omega (arith, c .before .before .pre .1))))
 
 cut-requires : tie.Need-cut-requires Inv-loop μ-loop
-cut-requires c κs = (c .before .before .before .before .pre .0 .ax-fits, c .before .before .before .before .pre .0 .bx-fits, omega (arith, c .before .loop .inv .0, c .loop-test .taken), c .loop-test .taken, c .before .before .parts .ensures .1)
+cut-requires c κs = (c .before .before .before .before .pre .0 .ax-fits, c .before .before .before .before .pre .0 .bx-fits, omega (arith, c .before .loop .inv .0, c .loop-test .taken), omega (arith, c .loop-test .taken), c .before .before .parts .ensures .1)
 
 cut-requires-2 : tie.Need-cut-requires-2 Inv-loop μ-loop
-cut-requires-2 c κs = (c .before .before .before .before .before .pre .0 .ay-fits, c .before .before .before .before .before .pre .0 .by-fits, omega (arith, c .before .before .loop .inv .0, c .before .loop-test .taken), c .before .loop-test .taken, c .before .before .before .parts .ensures .1)
+cut-requires-2 c κs = (c .before .before .before .before .before .pre .0 .ay-fits, c .before .before .before .before .before .pre .0 .by-fits, omega (arith, c .before .before .loop .inv .0, c .before .loop-test .taken), omega (arith, c .before .loop-test .taken), c .before .before .before .parts .ensures .1)
 
 sub-put-record : tie.Need-sub-put-record Inv-loop μ-loop
 sub-put-record c =
     let a = c .before .before .before .before .before .before .before .before .args in
     let l = c .before .before .before .before .before .loop in
-    omega (arith, next-fits (wholeAt (a .ax) (a .ay)) (wholeAt (a .bx) (a .by)) (c .before .before .before .before .before .before .parts .result) (c .before .before .before .before .before .before .parts .ensures .0) (l .x) (l .y) (l .i) (c .before .before .before .cut .result) (c .before .before .cut2 .result) (l .inv .0) (c .before .before .before .before .loop-test .taken) (l .inv .4) (l .inv .5) (c .before .before .before .cut .ensures .0) (c .before .before .cut2 .ensures .0) .0)
+    omega (arith, next-fits (wholeAt (a .ax) (a .ay)) (wholeAt (a .bx) (a .by)) (c .before .before .before .before .before .before .parts .result) (c .before .before .before .before .before .before .parts .ensures .0) (l .x) (l .y) (l .i) (c .before .before .before .cut .result) (c .before .before .cut2 .result) (l .inv .0) (omega (arith, c .before .before .before .before .loop-test .taken)) (l .inv .4) (l .inv .5) (c .before .before .before .cut .ensures .0) (c .before .before .cut2 .ensures .0) .0)
 
 sub-put-record-2 : tie.Need-sub-put-record-2 Inv-loop μ-loop
 sub-put-record-2 c =
     let a = c .before .before .before .before .before .before .before .before .args in
     let l = c .before .before .before .before .before .loop in
-    omega (arith, next-fits (wholeAt (a .ax) (a .ay)) (wholeAt (a .bx) (a .by)) (c .before .before .before .before .before .before .parts .result) (c .before .before .before .before .before .before .parts .ensures .0) (l .x) (l .y) (l .i) (c .before .before .before .cut .result) (c .before .before .cut2 .result) (l .inv .0) (c .before .before .before .before .loop-test .taken) (l .inv .4) (l .inv .5) (c .before .before .before .cut .ensures .0) (c .before .before .cut2 .ensures .0) .1)
+    omega (arith, next-fits (wholeAt (a .ax) (a .ay)) (wholeAt (a .bx) (a .by)) (c .before .before .before .before .before .before .parts .result) (c .before .before .before .before .before .before .parts .ensures .0) (l .x) (l .y) (l .i) (c .before .before .before .cut .result) (c .before .before .cut2 .result) (l .inv .0) (omega (arith, c .before .before .before .before .loop-test .taken)) (l .inv .4) (l .inv .5) (c .before .before .before .cut .ensures .0) (c .before .before .cut2 .ensures .0) .1)
 
 put-record-requires : tie.Need-put-record-requires Inv-loop μ-loop
 put-record-requires c κs =
     let a = c .before .before .before .before .before .before .before .before .args in
     let l = c .before .before .before .before .before .loop in
-    next-room (wholeAt (a .ax) (a .ay)) (wholeAt (a .bx) (a .by)) (c .before .before .before .before .before .before .parts .result) (c .before .before .before .before .before .before .parts .ensures .0) (l .x) (l .y) (l .i) (c .before .before .before .cut .result) (c .before .before .cut2 .result) (l .inv .0) (c .before .before .before .before .loop-test .taken) (l .inv .4) (l .inv .5) (c .before .before .before .cut .ensures .0) (c .before .before .cut2 .ensures .0) (l .inv .6) (put-room (a .out .now) _ (a .at) (c .before .before .before .before .before .before .before .before .pre .1))
+    next-room (wholeAt (a .ax) (a .ay)) (wholeAt (a .bx) (a .by)) (c .before .before .before .before .before .before .parts .result) (c .before .before .before .before .before .before .parts .ensures .0) (l .x) (l .y) (l .i) (c .before .before .before .cut .result) (c .before .before .cut2 .result) (l .inv .0) (omega (arith, c .before .before .before .before .loop-test .taken)) (l .inv .4) (l .inv .5) (c .before .before .before .cut .ensures .0) (c .before .before .cut2 .ensures .0) (l .inv .6) (put-room (a .out .now) _ (a .at) (c .before .before .before .before .before .before .before .before .pre .1))
 
 add-k : tie.Need-add-k Inv-loop μ-loop
 add-k c =
     let a = c .before .before .before .before .before .before .before .before .before .before .before .args in
     let l = c .before .before .before .before .before .before .before .before .loop in
-    omega (arith, next-room (wholeAt (a .ax) (a .ay)) (wholeAt (a .bx) (a .by)) (c .before .before .before .before .before .before .before .before .before .parts .result) (c .before .before .before .before .before .before .before .before .before .parts .ensures .0) (l .x) (l .y) (l .i) (c .before .before .before .before .before .before .cut .result) (c .before .before .before .before .before .cut2 .result) (l .inv .0) (c .before .before .before .before .before .before .before .loop-test .taken) (l .inv .4) (l .inv .5) (c .before .before .before .before .before .before .cut .ensures .0) (c .before .before .before .before .before .cut2 .ensures .0) (l .inv .6) (put-room (a .out .now) _ (a .at) (c .before .before .before .before .before .before .before .before .before .before .before .pre .1)), l .inv .6 .len)
+    omega (arith, next-room (wholeAt (a .ax) (a .ay)) (wholeAt (a .bx) (a .by)) (c .before .before .before .before .before .before .before .before .before .parts .result) (c .before .before .before .before .before .before .before .before .before .parts .ensures .0) (l .x) (l .y) (l .i) (c .before .before .before .before .before .before .cut .result) (c .before .before .before .before .before .cut2 .result) (l .inv .0) (omega (arith, c .before .before .before .before .before .before .before .loop-test .taken)) (l .inv .4) (l .inv .5) (c .before .before .before .before .before .before .cut .ensures .0) (c .before .before .before .before .before .cut2 .ensures .0) (l .inv .6) (put-room (a .out .now) _ (a .at) (c .before .before .before .before .before .before .before .before .before .before .before .pre .1)), l .inv .6 .len)
 
 add-i : tie.Need-add-i Inv-loop μ-loop
 add-i c = omega (arith, c .before .before .before .before .before .before .before .loop-test .taken, c .before .before .before .before .before .before .before .before .before .parts .ensures .1)
@@ -66,7 +66,7 @@ loop-again c =
     let a = c .before .before .before .before .before .before .before .before .before .before .before .args in
     let l = c .before .before .before .before .before .before .before .before .loop in
     let q : l .i + 1 - 1 ≡ l .i = omega arith in
-    (omega arith, omega (arith, c .before .before .before .before .before .before .before .loop-test .taken), c .before .before .before .before .before .before .cut .ensures .1, c .before .before .before .before .before .cut2 .ensures .1, rw q (c .before .before .before .before .before .before .cut .ensures .0), rw q (c .before .before .before .before .before .cut2 .ensures .0), next-put (wholeAt (a .ax) (a .ay)) (wholeAt (a .bx) (a .by)) (c .before .before .before .before .before .before .before .before .before .parts .result) (c .before .before .before .before .before .before .before .before .before .parts .ensures .0) (l .x) (l .y) (l .i) (c .before .before .before .before .before .before .cut .result) (c .before .before .before .before .before .cut2 .result) (l .inv .0) (c .before .before .before .before .before .before .before .loop-test .taken) (l .inv .4) (l .inv .5) (c .before .before .before .before .before .before .cut .ensures .0) (c .before .before .before .before .before .cut2 .ensures .0) (l .inv .6) (put-room (a .out .now) _ (a .at) (c .before .before .before .before .before .before .before .before .before .before .before .pre .1)) _ (rw (c .before .before .before .kind-at .ensures) at (c .before .before .put-record .ensures)))
+    (omega arith, omega (arith, c .before .before .before .before .before .before .before .loop-test .taken), c .before .before .before .before .before .before .cut .ensures .1, c .before .before .before .before .before .cut2 .ensures .1, rw q (c .before .before .before .before .before .before .cut .ensures .0), rw q (c .before .before .before .before .before .cut2 .ensures .0), next-put (wholeAt (a .ax) (a .ay)) (wholeAt (a .bx) (a .by)) (c .before .before .before .before .before .before .before .before .before .parts .result) (c .before .before .before .before .before .before .before .before .before .parts .ensures .0) (l .x) (l .y) (l .i) (c .before .before .before .before .before .before .cut .result) (c .before .before .before .before .before .cut2 .result) (l .inv .0) (omega (arith, c .before .before .before .before .before .before .before .loop-test .taken)) (l .inv .4) (l .inv .5) (c .before .before .before .before .before .before .cut .ensures .0) (c .before .before .before .before .before .cut2 .ensures .0) (l .inv .6) (put-room (a .out .now) _ (a .at) (c .before .before .before .before .before .before .before .before .before .before .before .pre .1)) _ (rw (c .before .before .before .kind-at .ensures) at (c .before .before .put-record .ensures)))
 
 same-length : tie.Need-same-length Inv-loop μ-loop
 same-length c = c .before .loop .inv .6 .len
