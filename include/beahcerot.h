@@ -46,6 +46,8 @@ uint64_t beahcerot_resample_keep_corners(const double *line, size_t line_len, do
 
 uint64_t beahcerot_running(const double *line, size_t line_len, bool closed, double len, uint64_t passes, double *out, size_t out_len, uint64_t *count);
 
+uint64_t beahcerot_dst(const double *points, size_t points_len, uint8_t *out, size_t out_len, uint64_t *count);
+
 double beahcerot_root(double x);
 
 double beahcerot_floor(double x);

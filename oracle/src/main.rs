@@ -1,6 +1,7 @@
 //! The oracle: the proved library beside the Rust it was ported from.
 
 mod compare;
+mod dst;
 mod expect;
 mod filled;
 mod inputs;

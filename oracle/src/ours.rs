@@ -510,3 +510,12 @@ pub mod satin {
         }
     }
 }
+
+/// Machine files.
+pub mod machine {
+    use super::raw::beahcerot_dst;
+    pub fn dst(points: &[f64], out: &mut [u8], count: &mut u64) -> u64 {
+        let room = out.len();
+        unsafe { beahcerot_dst(points.as_ptr(), points.len(), out.as_mut_ptr(), room, count) }
+    }
+}

@@ -5,6 +5,7 @@
 
 mod fill;
 mod line;
+pub mod machine;
 mod pattern;
 mod raw;
 mod refusal;

@@ -59,6 +59,7 @@ use Rattle.tatami.proofs.row_list
 use Rattle.fillroom.proofs.fill_room
 use Rattle.jobs.proofs.job.parse
 use Rattle.desk.proofs.fill_job
+use Rattle.dst.proofs.dst
 
 -- ---- one outcome
 
@@ -243,3 +244,8 @@ front-one m out p q = let s = one (p .0) (q .0) in (s, p .1 ∙ ap (λ (r : ℕ)
 
 pub printed-outcome : (bytes out : List ℕ) {r r′ : ℕ} {o o′ : List ℕ} → (r ≡ length (printed bytes)) × (o ≡ printed bytes ++ drop r out) → (r′ ≡ length (printed bytes)) × (o′ ≡ printed bytes ++ drop r′ out) → (r ≡ r′) × (o ≡ o′)
 printed-outcome bytes out = front-one (printed bytes) out
+
+-- ---- for the machine
+
+pub dst-outcome : One dst.ended dst.Reads.Learnt
+dst-outcome κs a x y h k = both (one (h .0) (k .0)) (λ i. (tt, (one (h .1) (k .1) i, tt)))

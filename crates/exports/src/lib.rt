@@ -3,6 +3,7 @@
 pub mod border;
 pub mod fill;
 pub mod line;
+pub mod machine;
 pub mod number;
 pub mod pattern;
 pub mod shape;

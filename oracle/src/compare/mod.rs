@@ -2,6 +2,7 @@
 //! report differences, one way to time. A group is a file with a list of
 //! functions; see README.md for how to add one.
 
+mod dst;
 pub mod fill;
 pub mod geom;
 mod jobs;
@@ -518,6 +519,11 @@ pub fn groups() -> Vec<Group> {
         Group {
             name: "satin",
             functions: satin::functions(),
+            replay: None,
+        },
+        Group {
+            name: "machine",
+            functions: dst::functions(),
             replay: None,
         },
     ]

@@ -1,0 +1,2 @@
+mod WaySteps
+mod ThreadSteps

@@ -1,0 +1,12 @@
+-- What the contracts of `dst` cite (Rounding, Records, Thread, Answers; Lifted), and what is proved of it.
+pub mod Rounding
+pub mod Records
+pub mod Thread
+pub mod Answers
+pub mod Lifted
+pub mod Said
+pub mod RoundingLaws
+pub mod LiftedLaws
+pub mod ThreadLaws
+pub mod RecordLaws
+pub mod Examples
