@@ -245,6 +245,6 @@ pub fn clip_inside(
     ensures { λ r. ⌜ (r ≡ saidLines (roomFor (clipped (now (line .entry)) (now (corners .entry)) (now (ends .entry)) rule) (length (now (out .entry))) (length (now (stops .entry)))) (clipped (now (line .entry)) (now (corners .entry)) (now (ends .entry)) rule)) × (now (out .exit) ≡ leftPoints (roomFor (clipped (now (line .entry)) (now (corners .entry)) (now (ends .entry)) rule) (length (now (out .entry))) (length (now (stops .entry)))) (clipped (now (line .entry)) (now (corners .entry)) (now (ends .entry)) rule) (now (out .entry))) × (now (stops .exit) ≡ leftEnds (roomFor (clipped (now (line .entry)) (now (corners .entry)) (now (ends .entry)) rule) (length (now (out .entry))) (length (now (stops .entry)))) (clipped (now (line .entry)) (now (corners .entry)) (now (ends .entry)) rule) (now (stops .entry))) ⌝ }
 {
     let mut h = [0.0f64; HEIGHTS];
-    heights(corners, &mut h);
+    heights(corners, ends, &mut h);
     clip_by(line, corners, ends, &h, rule, out, stops)
 }

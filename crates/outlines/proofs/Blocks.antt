@@ -2,15 +2,16 @@
 use Prim.Native.Nat.{ℕ, zero, suc, _+_, _-_, _*_, _/_, _%_, _≤_, _<_, min}
 use native.Mathlib.Omega.{arith}
 use native.Mathlib.Decide.{decLe}
-use mathlib.Core.Path.{_≡_, refl, sym, ap, _∙_}
+use mathlib.Core.Path.{_≡_, refl, subst, _∙_}
 use mathlib.Core.Bool.{Bool, true, false, cond, or-true}
 use mathlib.Core.List.{List, [], _∷_}
-use lib.Dec.{eqb}
+use lib.Dec.{eqb, ltb, nltb→le}
 use lib.ListN.{length, take, drop, getD, set, length-set, length-take, length-drop}
 use lib.Seq.{getD-take, getD-drop, getD-set-same, getD-set-other}
 use lib.IntN.{pos}
 use lib.Ieee.{Float, nan, inf, fin, lt, le, eq}
 use borrow.Author.Tests.{eq-eqb}
+use Rattle.numbers.specs.Num.{zero64}
 use Rattle.numbers.specs.Value.{Within}
 use Rattle.numbers.specs.Laws as laws
 use Rattle.numbers.specs.Laws.{holds}
@@ -22,7 +23,8 @@ use Rattle.geom.specs.Point.{point}
 use Rattle.geom.specs.Outline.{points}
 use Rattle.geom.specs.OutlineLaws.{points-length, points-part}
 use Rattle.outlines.specs.Runs.{chain, lows, oneSide}
-use Rattle.outlines.specs.Heights.{Left, Lies, LiesIn, Block, Heights}
+use Rattle.outlines.specs.Heights.{Left, Lies, LiesIn, Block, Beside, Heights, startOf, ringAt, RingHeights}
+use Rattle.outlines.specs.Winding.{edges, ring}
 use Rattle.outlines.specs.WindingLaws.{one-side-adds}
 use Rattle.outlines.specs.LeftLaws.{chain-left}
 
@@ -112,15 +114,45 @@ module _ (lo hi right : Float) (p : P) where
   all-left [] h q = tt
   all-left (a ∷ l) h q = (h 0 (omega arith) .left (p .x) q, all-left l (λ k r. h (suc k) (omega arith)) q)
 
-module _ (b : ℕ) (l : List P) (t : List Float) (p : P) (h : Block b l t) (s : 3 * b + 2 < length t) where
-  pub block-high : lt (p .y) (getD t (3 * b) nan) ≡ true → chain p l ≡ pos 0
-  block-high q = one-side-adds p l (unfold oneSide in rw (eq-eqb _ _ (high-lows (getD t (3 * b) nan) (getD t (3 * b + 1) nan) (getD t (3 * b + 2) nan) p l (λ k r. h k s r) q)))
+module _ (t : List Float) (b : ℕ) (p : P) where
+  abbrev lo : Float
+  lo = getD t (3 * b) nan
 
-  pub block-low : le (getD t (3 * b + 1) nan) (p .y) ≡ true → chain p l ≡ pos 0
-  block-low q = one-side-adds p l (unfold oneSide in rw (eq-eqb _ _ (low-lows (getD t (3 * b) nan) (getD t (3 * b + 1) nan) (getD t (3 * b + 2) nan) p l (λ k r. h k s r) q)) (or-true (eqb (lows (p .y) l) 0)))
+  abbrev hi : Float
+  hi = getD t (3 * b + 1) nan
 
-  pub block-left : lt (getD t (3 * b + 2) nan) (p .x) ≡ true → Within 20 (p .x) → Within 20 (p .y) → chain p l ≡ pos 0
-  block-left q wide tall = chain-left p l wide tall (all-left (getD t (3 * b) nan) (getD t (3 * b + 1) nan) (getD t (3 * b + 2) nan) p l (λ k r. h k s r) q)
+  abbrev right : Float
+  right = getD t (3 * b + 2) nan
+
+  pub beside-above : lt (p .y) lo ≡ true → Beside t b p
+  beside-above q l h = one-side-adds p l (unfold oneSide in rw (eq-eqb _ _ (high-lows lo hi right p l h q)))
+
+  pub beside-below : le hi (p .y) ≡ true → Beside t b p
+  beside-below q l h = one-side-adds p l (unfold oneSide in rw (eq-eqb _ _ (low-lows lo hi right p l h q)) (or-true (eqb (lows (p .y) l) 0)))
+
+  pub beside-left : lt right (p .x) ≡ true → Within 20 (p .x) → Within 20 (p .y) → Beside t b p
+  beside-left q wide tall l h = chain-left p l wide tall (all-left lo hi right p l h q)
+
+same-at : (l : List P) (i : ℕ) (a b : P) → i < length l → getD l i a ≡ getD l i b
+same-at [] i a b h = absurd (omega arith)
+same-at (x ∷ l) zero a b h = refl
+same-at (x ∷ l) (suc i) a b h = same-at l i a b (omega arith)
+
+-- a ring that p lies beside: its last corner comes first
+pub ring-beside : (t : List Float) (b : ℕ) (p : P) (l : List P) → Beside t b p → 3 * b + 2 < length t → Block b l t → ring p l ≡ pos 0
+unfolding ring
+ring-beside t b p l f s h = go (ltb (length l) 3) refl
+  where
+    z : P
+    z = point zero64 zero64
+
+    all : 0 < length l → (k : ℕ) → k < length (getD l (length l - 1) z ∷ l) → LiesIn t b (getD (getD l (length l - 1) z ∷ l) k (point nan nan))
+    all n zero q = subst (LiesIn t b) (same-at l (length l - 1) (point nan nan) z (omega arith)) (h (length l - 1) s (omega arith))
+    all n (suc k) q = h k s (omega arith)
+
+    go : (c : Bool) → ltb (length l) 3 ≡ c → cond c (pos 0) (edges p (getD l (length l - 1) z) l) ≡ pos 0
+    go true e = refl
+    go false e = unfold chain in f (getD l (length l - 1) z ∷ l) (all (omega (arith, nltb→le (length l) 3 (laws.fails e))))
 
 -- ---- parts of an outline
 
@@ -131,26 +163,36 @@ part-at a e l k h =
     (getD-take (e - a) (drop a l) k (point nan nan) n ∙ getD-drop a l k (point nan nan), omega (arith, length-take (e - a) (drop a l), length-drop a l), n)
 
 -- the corners from k to e of a ring, within block b
-pub part-block : (a b k e : ℕ) (l : List Float) (t : List Float) → Heights a (points l) t → 8 * b ≤ a + k → a + e ≤ 8 * b + 9 → Block b (points (take (2 * e - 2 * k) (drop (2 * k) l))) t
-part-block a b k e l t h p q = rw (points-part k e l) (λ j s n. let w = part-at k e (points l) j n in rw (w .0) (h b (k + j) s (w .1) (omega arith) (omega (arith, w .2))))
+pub part-block : (a b k e : ℕ) (l : List Float) (t : List Float) → Heights a (points l) t → 8 * b ≤ a + k → a + e ≤ 8 * b + 9 → b < 128 → Block b (points (take (2 * e - 2 * k) (drop (2 * k) l))) t
+part-block a b k e l t h p q few = rw (points-part k e l) (λ j s n. let w = part-at k e (points l) j n in rw (w .0) (h b (k + j) few s (w .1) (omega arith) (omega (arith, w .2))))
 
 -- a ring of the outline
 pub ring-heights : (a e : ℕ) (l : List Float) (t : List Float) → Heights 0 (points l) t → Heights a (points (take (2 * e - 2 * a) (drop (2 * a) l))) t
-ring-heights a e l t h = rw (points-part a e l) (λ b k s n p q. let w = part-at a e (points l) k n in rw (w .0) (h b (a + k) s (w .1) (omega arith) (omega arith)))
+ring-heights a e l t h = rw (points-part a e l) (λ b k few s n p q. let w = part-at a e (points l) k n in rw (w .0) (h b (a + k) few s (w .1) (omega arith) (omega arith)))
+
+-- the numbers of ring k, of its corners as they are lent
+pub ring-block : (k : ℕ) (l : List Float) (ends : List ℕ) (t : List Float) → RingHeights (points l) ends t → k < length ends → Block (128 + k) (points (take (2 * getD ends k 0 - 2 * startOf ends k) (drop (2 * startOf ends k) l))) t
+ring-block k l ends t h n = rw (points-part (startOf ends k) (getD ends k 0) l) (h k n)
 
 pub no-heights : (l : List P) → Heights 0 l []
-no-heights l b k s n p q = absurd (omega arith)
+no-heights l b k few s n p q = absurd (omega arith)
+
+pub no-rings : (l : List P) (ends : List ℕ) → RingHeights l ends []
+no-rings l ends k n j s q = absurd (omega arith)
 
 -- ---- the heights up to corner m, m a multiple of eight
 
 abbrev pub Known : ℕ → List P → List Float → Type 0
-Known m l t = (b k : ℕ) → 8 * b < m → 3 * b + 2 < length t → k < length l → 8 * b ≤ k → k ≤ 8 * b + 8 → LiesIn t b (getD l k (point nan nan))
+Known m l t = (b k : ℕ) → 8 * b < m → b < 128 → 3 * b + 2 < length t → k < length l → 8 * b ≤ k → k ≤ 8 * b + 8 → LiesIn t b (getD l k (point nan nan))
 
 pub known-all : (m : ℕ) (l : List P) (t : List Float) → Known m l t → length l ≤ m → Heights 0 l t
-known-all m l t h n b k s j p q = h b k (omega arith) s j (omega arith) (omega arith)
+known-all m l t h n b k few s j p q = h b k (omega arith) few s j (omega arith) (omega arith)
 
 pub known-full : (m : ℕ) (l : List P) (t : List Float) → Known m l t → m % 8 ≡ 0 → length t ≤ 3 * (m / 8) + 2 → Heights 0 l t
-known-full m l t h e n b k s j p q = h b k (omega arith) s j (omega arith) (omega arith)
+known-full m l t h e n b k few s j p q = h b k (omega arith) few s j (omega arith) (omega arith)
+
+pub known-most : (m : ℕ) (l : List P) (t : List Float) → Known m l t → m % 8 ≡ 0 → 384 ≤ 3 * (m / 8) → Heights 0 l t
+known-most m l t h e n b k few s j p q = h b k (omega arith) few s j (omega arith) (omega arith)
 
 -- three numbers from i on
 abbrev pub three : List Float → ℕ → Float → Float → Float → List Float
@@ -189,7 +231,7 @@ module _ (m e : ℕ) (l : List Float) (t : List Float) (lo hi right : Float) (ev
       rw (w .0, x) at g
 
   pub known-next : Known m (points l) t → Known (m + 8) (points l) after
-  known-next g b k u s n p q = go (decLe m (8 * b))
+  known-next g b k u few s n p q = go (decLe m (8 * b))
     where
       go : Dec (m ≤ 8 * b) → LiesIn after b (getD (points l) k (point nan nan))
       go (yes z) =
@@ -197,4 +239,41 @@ module _ (m e : ℕ) (l : List Float) (t : List Float) (lo hi right : Float) (ev
           rw (x, three-first t (3 * (m / 8)) lo hi right room, three-second t (3 * (m / 8)) lo hi right room, three-third t (3 * (m / 8)) lo hi right room) (newest k n (omega arith) (omega arith))
       go (no z) =
           let kept = three-kept t (3 * (m / 8)) lo hi right in
-          rw (kept (3 * b) (omega arith), kept (3 * b + 1) (omega arith), kept (3 * b + 2) (omega arith)) (g b k (omega arith) (omega (arith, three-size t (3 * (m / 8)) lo hi right)) n p q)
+          rw (kept (3 * b) (omega arith), kept (3 * b + 1) (omega arith), kept (3 * b + 2) (omega arith)) (g b k (omega arith) few (omega (arith, three-size t (3 * (m / 8)) lo hi right)) n p q)
+
+-- ---- the rings up to ring m
+
+abbrev pub KnownRings : ℕ → List P → List ℕ → List Float → Type 0
+KnownRings m l ends t = (k : ℕ) → k < m → k < length ends → Block (128 + k) (ringAt l ends k) t
+
+pub rings-all : (m : ℕ) (l : List P) (ends : List ℕ) (t : List Float) → KnownRings m l ends t → length ends ≤ m → RingHeights l ends t
+rings-all m l ends t h n k q = h k (omega arith) q
+
+pub rings-full : (m : ℕ) (l : List P) (ends : List ℕ) (t : List Float) → KnownRings m l ends t → length t ≤ 3 * (128 + m) + 2 → RingHeights l ends t
+rings-full m l ends t h n k q j s r = h k (omega arith) q j s r
+
+-- numbers from i on change nothing of what is said by those before
+kept-lies : (t : List Float) (i : ℕ) (lo hi right : Float) (b : ℕ) (a : P) → 3 * b + 2 < i → LiesIn t b a → LiesIn (three t i lo hi right) b a
+kept-lies t i lo hi right b a n h =
+    let kept = three-kept t i lo hi right in
+    rw (kept (3 * b) (omega arith), kept (3 * b + 1) (omega arith), kept (3 * b + 2) n) h
+
+module _ (m : ℕ) (l : List Float) (ends : List ℕ) (t : List Float) (lo hi right : Float) (room : 3 * (128 + m) + 2 < length t) where
+  abbrev with-ring : List Float
+  with-ring = three t (3 * (128 + m)) lo hi right
+
+  pub heights-kept : Heights 0 (points l) t → Heights 0 (points l) with-ring
+  heights-kept h b k few s n p q = kept-lies t (3 * (128 + m)) lo hi right b _ (omega arith) (h b k few (omega (arith, three-size t (3 * (128 + m)) lo hi right)) n p q)
+
+  pub rings-next : All (Lies lo hi right) (points (take (2 * getD ends m 0 - 2 * startOf ends m) (drop (2 * startOf ends m) l))) → KnownRings m (points l) ends t → KnownRings (m + 1) (points l) ends with-ring
+  rings-next h g k u q j s n = go (decLe m k)
+    where
+      go : Dec (m ≤ k) → LiesIn with-ring (128 + k) (getD (ringAt (points l) ends k) j (point nan nan))
+      go (yes z) =
+          let e : k ≡ m = omega arith in
+          let x = all-at (Lies lo hi right) (ringAt (points l) ends m) j (point nan nan) (rw e at n) (rw (points-part (startOf ends m) (getD ends m 0) l) at h) in
+          rw (e, three-first t (3 * (128 + m)) lo hi right room, three-second t (3 * (128 + m)) lo hi right room, three-third t (3 * (128 + m)) lo hi right room) x
+      go (no z) = kept-lies t (3 * (128 + m)) lo hi right (128 + k) _ (omega arith) (g k (omega arith) q j (omega (arith, three-size t (3 * (128 + m)) lo hi right)) n)
+
+pub start-next : (ends : List ℕ) (k : ℕ) → getD ends k 0 ≡ startOf ends (k + 1)
+start-next ends k = let e : k + 1 ≡ suc k = omega arith in rw e

@@ -1,16 +1,19 @@
-// The heights of an outline: for each eight sides the least and the greatest y of their corners, and their greatest x, so that
-// a winding number can pass over most of them. Worked out once where many points are asked about.
+// The heights of an outline: for each eight sides, and for each ring, the least and the greatest y of their corners, and their
+// greatest x, so that a winding number can pass over most of them. Worked out once where many points are asked about.
 ghost use mathlib.Core.Path.{_≡_};
 ghost use mathlib.Core.Bool.{true, false};
 ghost use Prim.Native.Nat.{_+_, _<_, min};
 ghost use lib.Ieee.{Float, lt, le};
 ghost use Rattle.numbers.specs.Value.{Within};
 ghost use Rattle.seqs.specs.Lists.{All};
-ghost use Rattle.geom.specs.Outline.{points};
-ghost use Rattle.outlines.specs.Heights.{Left, Lies, Heights};
+ghost use Rattle.geom.specs.Outline.{points, Layout};
+ghost use Rattle.outlines.specs.Heights.{Left, Lies, Heights, Measured};
 
-// Enough for as many corners as document 01 has.
-pub const HEIGHTS: usize = 384;
+// Blocks for as many corners as document 01 has.
+pub const BLOCKS: usize = 128;
+
+// Three numbers for each block, and for each of 64 rings.
+pub const HEIGHTS: usize = 576;
 
 pub struct Height {
     pub lo: f64,
@@ -103,7 +106,7 @@ fn block_end(k: usize, n: usize) -> usize
 }
 
 // The heights of the blocks to the front of t, as far as it goes.
-pub fn heights(corners: &[f64], t: &mut [f64])
+fn block_heights(corners: &[f64], t: &mut [f64])
     ensures { λ _. ⌜ Heights 0 (points (now (corners .entry))) (now (t .exit)) ⌝ }
 {
     let n = corners.len() / 2;
@@ -111,6 +114,9 @@ pub fn heights(corners: &[f64], t: &mut [f64])
     while k < n {
         let to = 3 * (k / 8);
         if t.len() <= to + 2 {
+            return;
+        }
+        if to >= 3 * BLOCKS {
             return;
         }
         let s = 2 * k;
@@ -121,4 +127,37 @@ pub fn heights(corners: &[f64], t: &mut [f64])
         t[to + 2] = h.right;
         k += 8;
     }
+}
+
+// Those of the rings after them.
+fn ring_heights(corners: &[f64], ends: &[usize], t: &mut [f64])
+    requires { ⌜ Layout (now corners) (now ends) × Heights 0 (points (now corners)) (now t) ⌝ }
+    ensures { λ _. ⌜ Measured (now (corners .entry)) (now (ends .entry)) (now (t .exit)) ⌝ }
+{
+    let mut a = 0;
+    let mut k = 0;
+    while k < ends.len() {
+        let to = 3 * (BLOCKS + k);
+        if t.len() <= to + 2 {
+            return;
+        }
+        let e = ends[k];
+        let from = 2 * a;
+        let end = 2 * e;
+        let h = height_of(&corners[from..end]);
+        t[to] = h.lo;
+        t[to + 1] = h.hi;
+        t[to + 2] = h.right;
+        a = e;
+        k += 1;
+    }
+}
+
+// All of them, as far as t goes.
+pub fn heights(corners: &[f64], ends: &[usize], t: &mut [f64])
+    requires { ⌜ Layout (now corners) (now ends) ⌝ }
+    ensures { λ _. ⌜ Measured (now (corners .entry)) (now (ends .entry)) (now (t .exit)) ⌝ }
+{
+    block_heights(corners, t);
+    ring_heights(corners, ends, t);
 }

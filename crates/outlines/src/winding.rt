@@ -9,7 +9,8 @@ ghost use Rattle.numbers.specs.Value.{Within};
 ghost use Rattle.geom.specs.Outline.{points, rings, Layout};
 ghost use Rattle.outlines.specs.Winding.{edge, ring, winding};
 ghost use Rattle.outlines.specs.Runs.{chain, oneSide};
-ghost use Rattle.outlines.specs.Heights.{Block, Heights, Measured};
+ghost use Rattle.outlines.specs.Heights.{Block, Beside, Heights, Measured};
+use crate::heights::BLOCKS;
 use crate::heights::near;
 use geom::P;
 use geom::cross;
@@ -89,30 +90,49 @@ fn right_of(right: f64, p: P) -> bool
     false
 }
 
+// Whether p lies beside the corners of block b, so that the sides between them add nothing.
+fn beside(t: &[f64], b: usize, p: P) -> bool
+    requires { ⌜ 3 * b + 2 < length (now t) ⌝ }
+    ensures { λ r. ⌜ (r ≡ true → Beside (now (t .entry)) b p) ⌝ }
+{
+    let k = 3 * b;
+    if p.y < t[k] {
+        return true;
+    }
+    if t[k + 1] <= p.y {
+        return true;
+    }
+    right_of(t[k + 2], p)
+}
+
 // Whether the sides between the corners of l, which are of block b, add nothing: by the block's heights where t has them.
-// All three are read first: then the tests compile to one branch.
 fn passed(l: &[f64], t: &[f64], b: usize, p: P) -> bool
-    requires { ⌜ Block b (points (now l)) (now t) ⌝ }
+    requires { ⌜ (b < 128 → Block b (points (now l)) (now t)) ⌝ }
     ensures { λ r. ⌜ (r ≡ true → chain p (points (now (l .entry))) ≡ pos 0) ⌝ }
 {
-    if b < t.len() / 3 {
-        let k = 3 * b;
-        let lo = t[k];
-        let hi = t[k + 1];
-        let right = t[k + 2];
-        if p.y < lo {
-            return true;
+    if b < BLOCKS {
+        if b < t.len() / 3 {
+            return beside(t, b, p);
         }
-        if hi <= p.y {
-            return true;
-        }
-        return right_of(right, p);
     }
     one_side(l, p.y)
 }
 
+// Whether ring k is passed over, by its heights where t has them.
+fn ring_passed(t: &[f64], k: usize, p: P) -> bool
+    ensures { λ r. ⌜ (r ≡ true → (3 * (128 + k) + 2 < length (now (t .entry))) × Beside (now (t .entry)) (128 + k) p) ⌝ }
+{
+    let m = t.len() / 3;
+    if m > BLOCKS {
+        if k < m - BLOCKS {
+            return beside(t, BLOCKS + k, p);
+        }
+    }
+    false
+}
+
 fn span(l: &[f64], t: &[f64], b: usize, p: P) -> i64
-    requires { ⌜ Block b (points (now l)) (now t) ⌝ }
+    requires { ⌜ (b < 128 → Block b (points (now l)) (now t)) ⌝ }
     ensures { λ r. ⌜ r ≡ chain p (points (now (l .entry))) ⌝ }
 {
     if passed(l, t, b, p) {
@@ -133,13 +153,16 @@ fn part_end(a: usize, b: usize, n: usize) -> usize
     n
 }
 
-// One ring, handed on as a part of the corner list, from place a of it on: a block of sides at a time.
-fn ring(l: &[f64], t: &[f64], a: usize, p: P) -> i64
-    requires { ⌜ (length (now l) % 2 ≡ 0) × (a + length (now l) < 2 ^ 62) × Heights a (points (now l)) (now t) ⌝ }
-    ensures { λ r. ⌜ r ≡ ring p (points (now (l .entry))) ⌝ }
+// Ring r, handed on as a part of the corner list, from place a of it on: a block of sides at a time.
+fn ring(l: &[f64], t: &[f64], r: usize, a: usize, p: P) -> i64
+    requires { ⌜ (length (now l) % 2 ≡ 0) × (a + length (now l) < 2 ^ 62) × Heights a (points (now l)) (now t) × Block (128 + r) (points (now l)) (now t) ⌝ }
+    ensures { λ w. ⌜ w ≡ ring p (points (now (l .entry))) ⌝ }
 {
     let n = l.len() / 2;
     if n < 3 {
+        return 0;
+    }
+    if ring_passed(t, r, p) {
         return 0;
     }
     let last = corner(l, l.len() - 2);
@@ -168,7 +191,7 @@ pub fn winding_by(corners: &[f64], ends: &[usize], t: &[f64], p: P) -> i64
         let e = ends[k];
         let from = 2 * a;
         let to = 2 * e;
-        w += ring(&corners[from..to], t, a, p);
+        w += ring(&corners[from..to], t, k, a, p);
         a = e;
         k += 1;
     }

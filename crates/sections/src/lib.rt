@@ -332,6 +332,6 @@ pub fn mark_all(
     ensures { λ r. ⌜ Wrote (now (wholes .entry)) (now (wholes .exit)) n (flatMarks (markedIn (rings (now (corners .entry)) (now (ends .entry))) (f .rule) (f .settings) (now (pieces .entry)) (now (wholes .entry)) n rows)) × (r ≡ begun (markedIn (rings (now (corners .entry)) (now (ends .entry))) (f .rule) (f .settings) (now (pieces .entry)) (now (wholes .entry)) n rows)) × (r ≤ n) ⌝ }
 {
     let mut h = [0.0f64; HEIGHTS];
-    heights(corners, &mut h);
+    heights(corners, ends, &mut h);
     mark_rows(corners, ends, &h, f, pieces, wholes, n, rows)
 }

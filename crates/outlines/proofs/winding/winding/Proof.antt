@@ -2,13 +2,13 @@ use mathlib.Core.Path.{_∙_}
 use mir.Syntax.{w64}
 use mir.ValLaws.{toZ-ofZ}
 use Rattle.geom.specs.Outline.{points}
-use Rattle.outlines.proofs.Blocks.{no-heights}
+use Rattle.outlines.proofs.Blocks.{no-heights, no-rings}
 use borrow.Author.Needs.{needs}
 use Rattle.outlines.proofs.winding.winding.Statement.{statement}
 use Rattle.outlines.proofs.winding.winding.Tie as tie
 
 winding-by-requires : tie.Need-winding-by-requires
-winding-by-requires c κs = record { layout = c .before .before .before .pre; heights = no-heights (points (c .before .before .before .args .corners .now)) }
+winding-by-requires c κs = record { layout = c .before .before .before .pre; heights = no-heights (points (c .before .before .before .args .corners .now)); rings = no-rings (points (c .before .before .before .args .corners .now)) (c .before .before .before .args .ends .now) }
 
 returns : tie.Need-returns
 returns c = toZ-ofZ w64 (c .winding-by .result) (record { sfits = c .winding-by .ok }) ∙ c .winding-by .ensures

@@ -1,4 +1,4 @@
-use mathlib.Core.Path.{_≡_, sym, _∙_}
+use mathlib.Core.Path.{_≡_, refl, sym, _∙_}
 use mathlib.Core.Bool.{true}
 use Prim.Native.Nat.{_+_, _-_, _/_, _*_, _≤_}
 use native.Mathlib.Omega.{arith}
@@ -9,21 +9,22 @@ use mir.Val.{toZ}
 use Rattle.geom.specs.Outline.{points, cut, rings, rising}
 use Rattle.geom.specs.OutlineLaws.{rising-turn}
 use Rattle.outlines.specs.Winding.{winding}
+use Rattle.outlines.specs.Heights.{startOf}
 use Rattle.outlines.proofs.Loops.{sum, rings-next, rings-end, part-even, part-small}
-use Rattle.outlines.proofs.Blocks.{ring-heights}
+use Rattle.outlines.proofs.Blocks.{ring-heights, ring-block, start-next}
 use borrow.Author.Needs.{needs}
 use Rattle.outlines.proofs.winding.winding_by.Statement.{statement}
 use Rattle.outlines.proofs.winding.winding_by.Tie as tie
 
 abbrev Inv-loop : tie.InvT-loop
-Inv-loop corners ends t p w₀ a₀ k₀ w a k = (k ≤ length ends) × (natAbs (toZ w64 w) ≤ a) × (rising a (drop k ends) (length corners / 2) ≡ true) × (toZ w64 w +ℤ winding (cut a (drop k ends) (points corners)) p ≡ winding (rings corners ends) p)
+Inv-loop corners ends t p w₀ a₀ k₀ w a k = (k ≤ length ends) × (natAbs (toZ w64 w) ≤ a) × (rising a (drop k ends) (length corners / 2) ≡ true) × (toZ w64 w +ℤ winding (cut a (drop k ends) (points corners)) p ≡ winding (rings corners ends) p) × (a ≡ startOf ends k)
 
 abbrev μ-loop : tie.MeasureT-loop
 μ-loop corners ends t p w₀ a₀ k₀ w a k = length ends - k
 
 loop-holds : tie.Need-loop-holds Inv-loop μ-loop
 unfolding rings
-loop-holds c = (search needs, search needs, c .before .before .before .pre .layout .rise, +ℤ-idl _)
+loop-holds c = (search needs, search needs, c .before .before .before .pre .layout .rise, +ℤ-idl _, refl)
 
 mul-from : tie.Need-mul-from Inv-loop μ-loop
 mul-from c =
@@ -59,7 +60,7 @@ ring-requires : tie.Need-ring-requires Inv-loop μ-loop
 ring-requires c κs =
     let e = getD (c .before .before .before .before .before .before .before .args .ends .now) (c .before .before .before .loop .k) 0 in
     let t = rising-turn (c .before .before .before .loop .a) (c .before .before .before .before .before .before .before .args .ends .now) (c .before .before .before .loop .k) (length (c .before .before .before .before .before .before .before .args .corners .now) / 2) (c .before .before .before .loop .inv .2) (c .before .before .loop-test .taken) in
-    (part-even (c .before .before .before .before .before .before .before .args .corners .now) (c .before .before .before .loop .a) e (t .from) (omega (arith, t .to)), omega (arith, t .from, t .to, length-take (2 * e - 2 * c .before .before .before .loop .a) (drop (2 * c .before .before .before .loop .a) (c .before .before .before .before .before .before .before .args .corners .now))), ring-heights (c .before .before .before .loop .a) e (c .before .before .before .before .before .before .before .args .corners .now) (c .before .before .before .before .before .before .before .args .t .now) (c .before .before .before .before .before .before .before .pre .heights))
+    (part-even (c .before .before .before .before .before .before .before .args .corners .now) (c .before .before .before .loop .a) e (t .from) (omega (arith, t .to)), omega (arith, t .from, t .to, length-take (2 * e - 2 * c .before .before .before .loop .a) (drop (2 * c .before .before .before .loop .a) (c .before .before .before .before .before .before .before .args .corners .now))), ring-heights (c .before .before .before .loop .a) e (c .before .before .before .before .before .before .before .args .corners .now) (c .before .before .before .before .before .before .before .args .t .now) (c .before .before .before .before .before .before .before .pre .heights), rw (c .before .before .before .loop .inv .4) (ring-block (c .before .before .before .loop .k) (c .before .before .before .before .before .before .before .args .corners .now) (c .before .before .before .before .before .before .before .args .ends .now) (c .before .before .before .before .before .before .before .args .t .now) (c .before .before .before .before .before .before .before .pre .rings) (c .before .before .loop-test .taken)))
 
 add-w : tie.Need-add-w Inv-loop μ-loop
 add-w c =
@@ -74,7 +75,7 @@ loop-again c =
     let t = rising-turn (c .before .before .before .before .loop .a) (c .before .before .before .before .before .before .before .before .args .ends .now) (c .before .before .before .before .loop .k) (length (c .before .before .before .before .before .before .before .before .args .corners .now) / 2) (c .before .before .before .before .loop .inv .2) (c .before .before .before .loop-test .taken) in
     let k : natAbs (c .ring .result) ≤ e - c .before .before .before .before .loop .a = rw (c .ring .ensures) (part-small (c .before .before .before .before .before .before .before .before .args .p) (c .before .before .before .before .before .before .before .before .args .ends .now) (c .before .before .before .before .before .before .before .before .args .corners .now) (c .before .before .before .before .loop .a) e) in
     let s = sum (c .before .before .before .before .loop .w) (c .ring .result) e (omega (arith, t .from)) (omega (arith, t .to)) in
-    (omega arith, s .small, t .rise, rw (s .is, c .ring .ensures) (sym (rings-next (c .before .before .before .before .before .before .before .before .args .p) (c .before .before .before .before .before .before .before .before .args .ends .now) (c .before .before .before .before .before .before .before .before .args .corners .now) (toZ w64 (c .before .before .before .before .loop .w)) (c .before .before .before .before .loop .a) (c .before .before .before .before .loop .k) (omega arith)) ∙ c .before .before .before .before .loop .inv .3))
+    (omega arith, s .small, t .rise, rw (s .is, c .ring .ensures) (sym (rings-next (c .before .before .before .before .before .before .before .before .args .p) (c .before .before .before .before .before .before .before .before .args .ends .now) (c .before .before .before .before .before .before .before .before .args .corners .now) (toZ w64 (c .before .before .before .before .loop .w)) (c .before .before .before .before .loop .a) (c .before .before .before .before .loop .k) (omega arith)) ∙ c .before .before .before .before .loop .inv .3), start-next (c .before .before .before .before .before .before .before .before .args .ends .now) (c .before .before .before .before .loop .k))
 
 returns : tie.Need-returns Inv-loop μ-loop
 returns c = sym (rings-end (c .before .before .before .before .before .args .p) (c .before .before .before .before .before .args .ends .now) (c .before .before .before .before .before .args .corners .now) (toZ w64 (c .before .loop .w)) (c .before .loop .a) (c .before .loop .k) (omega arith)) ∙ c .before .loop .inv .3
