@@ -14,7 +14,7 @@ use borrow.Author.Tests.{eqb-true, eqb-false}
 use Rattle.dst.specs.declared.records.Kind.{Kind}
 use Rattle.dst.specs.declared.records.Kind.the-variants.{Stitch, Jump}
 use Rattle.dst.specs.Said.{bitAt, saidX, saidY, jumps}
-use Rattle.dst.specs.Records.{lift, bit, plus, minus, lower, third, bytesOf, recordOf}
+use Rattle.dst.specs.Records.{lift, bit, plus, minus, lower, third, bytesOf, recordOf, endRecord}
 
 -- ---- a digit by its two bits
 
@@ -186,3 +186,14 @@ one-record k k′ dx dy dx′ dy′ hx hy hx′ hy′ e = (
   sym (says-x k dx dy hx hy) ∙ ap (λ (l : List ℕ). saidX (getD l 0 0) (getD l 1 0) (getD l 2 0)) e ∙ says-x k′ dx′ dy′ hx′ hy′,
   sym (says-y k dx dy hx hy) ∙ ap (λ (l : List ℕ). saidY (getD l 0 0) (getD l 1 0) (getD l 2 0)) e ∙ says-y k′ dx′ dy′ hx′ hy′,
 )
+
+-- and none is the end's, which has both signs of y's 81
+pub not-end : (k : Kind) (dx dy : ℤ) → recordOf k dx dy ≡ endRecord → ⊥
+unfolding recordOf bytesOf
+not-end k dx dy e =
+    let y = lift dy in
+    let c = third-bits k (lift dx) y in
+    let t : third k (lift dx) y ≡ 243 = ap (λ (l : List ℕ). getD l 2 0) e in
+    let m : 1 ≡ minus 81 y = rw t at (c .is4) in
+    let p : 1 ≡ plus 81 y = rw t at (c .is5) in
+    omega (arith, digit 81 y .one)
