@@ -1,10 +1,8 @@
 // Pieces that take as many steps, told by their squared length: a line's pieces are mostly like the last ones, and ask for no root.
 ghost use mathlib.Core.Path.{_≡_};
-ghost use Rattle.polyline.specs.Cuts.{Told};
-ghost use Rattle.polyline.specs.Line.{pieceSteps};
+ghost use Rattle.polyline.specs.Cuts.{squareSteps, Told};
 use crate::cuts::alike;
 use crate::cuts::square_steps;
-use geom::P;
 use leaves::of_u64;
 
 // Pieces whose squared length lies between `from` and `to` take n steps.
@@ -37,13 +35,11 @@ pub fn pieces_of(n: u64, len: f64) -> Alike
     }
 }
 
-// Pieces like the one from a to b: those of one step, those like s, or others, which are looked at anew.
-pub fn piece_of(a: P, b: P, len: f64, one: Alike, s: Alike) -> Alike
+// Pieces like one of squared length d: those of one step, those like s, or others, which are looked at anew.
+pub fn piece_of(d: f64, len: f64, one: Alike, s: Alike) -> Alike
     requires { ⌜ Told len one × Told len s ⌝ }
-    ensures { λ r. ⌜ Told len r × (r .n ≡ pieceSteps a b len) ⌝ }
+    ensures { λ r. ⌜ Told len r × (r .n ≡ squareSteps d len) ⌝ }
 {
-    let v = a.minus(b);
-    let d = v.dot(v);
     if one.from < d {
         if d < one.to {
             return one;

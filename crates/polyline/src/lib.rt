@@ -57,7 +57,8 @@ pub fn count_line(line: &[f64], len: f64, room: u64) -> u64
     let mut i = 2;
     while i + 1 < line.len() {
         let q = corner(line, i);
-        let r = piece_of(p, q, len, one, s);
+        let v = p.minus(q);
+        let r = piece_of(v.dot(v), len, one, s);
         c = add_within(c, r.n, room);
         s = longer(len, r, s);
         p = q;
@@ -93,7 +94,8 @@ fn put_pieces(out: &mut [f64], k: usize, line: &[f64], len: f64) -> usize
     let mut i = 2;
     while i + 1 < line.len() {
         let q = corner(line, i);
-        let r = piece_of(p, q, len, one, s);
+        let v = p.minus(q);
+        let r = piece_of(v.dot(v), len, one, s);
         at = put_piece(out, at, p, q, r.n);
         s = longer(len, r, s);
         p = q;

@@ -44,7 +44,8 @@ fn side_of(p: P, q: P, max: f64, one: Alike, s: Alike) -> Alike
     requires { ⌜ Told max one × Told max s ⌝ }
     ensures { λ r. ⌜ Told max r × (r .n ≡ steps (dist p q) max) ⌝ }
 {
-    let r = piece_of(p, q, max, one, s);
+    let v = p.minus(q);
+    let r = piece_of(v.dot(v), max, one, s);
     if r.n > 0 {
         return r;
     }

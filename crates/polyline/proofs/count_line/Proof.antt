@@ -9,6 +9,7 @@ use Rattle.geom.specs.Outline.{points}
 use Rattle.geom.specs.OutlineLaws.{cornerAt}
 use Rattle.polyline.specs.Line.{piecesFrom, resampleKeepCorners}
 use Rattle.polyline.specs.Cuts.{Told}
+use Rattle.polyline.specs.AlikeLaws.{squared}
 use Rattle.polyline.specs.LineLaws.{pieces-end, count-start, count-next, resample-none}
 use borrow.Author.Needs.{needs}
 use Rattle.polyline.proofs.count_line.Statement.{statement}
@@ -29,17 +30,20 @@ loop-holds c =
     (search needs, omega arith, rw (c .before .corner .ensures) (ap (capped (a .room)) (sym (count-start (a .line .now) (a .len) (search needs)))), c .pieces-of .ensures .0)
 
 piece-of-requires : tie.Need-piece-of-requires Inv-loop μ-loop
-piece-of-requires c κs = (c .before .before .before .pieces-of .ensures .0, c .before .before .loop .inv .3)
+piece-of-requires c κs = (c .before .before .before .before .before .pieces-of .ensures .0, c .before .before .before .before .loop .inv .3)
 
 longer-requires : tie.Need-longer-requires Inv-loop μ-loop
-longer-requires c κs = (c .before .piece-of .ensures .0, c .before .before .before .before .loop .inv .3)
+longer-requires c κs = (c .before .piece-of .ensures .0, c .before .before .before .before .before .before .loop .inv .3)
+
+add-i : tie.Need-add-i Inv-loop μ-loop
+add-i c = omega (arith, c .before .before .before .before .before .before .before .before .before .before .before .before .good, c .before .before .before .before .before .before .before .loop .inv .0)
 
 loop-again : tie.Need-loop-again Inv-loop μ-loop
 loop-again c =
-    let a = c .before .before .before .before .before .before .before .before .before .before .args in
-    let l = c .before .before .before .before .before .loop in
-    let q = c .before .before .before .corner2 .ensures in
-    let s = rw q at (c .before .before .piece-of .ensures .1) in
+    let a = c .before .before .before .before .before .before .before .before .before .before .before .before .args in
+    let l = c .before .before .before .before .before .before .before .loop in
+    let q = c .before .before .before .before .before .corner2 .ensures in
+    let s = rw q at (c .before .before .piece-of .ensures .1 ∙ squared (l .p) (c .before .before .before .before .before .corner2 .result) _ _ (a .len) (c .before .before .before .before .minus .ensures) (c .before .before .before .dot .ensures)) in
     let e = count-next (a .line .now) (a .len) (l .p) (l .i) (search needs) in
     let k = length (piecesFrom (cornerAt (a .line .now) (l .i)) (points (drop (l .i + 2) (a .line .now))) (a .len)) in
     (search needs, rw (c .before .add-within .ensures) (capped-small (a .room) _), rw (c .before .add-within .ensures, q) (capped-on (a .room) (l .c + c .before .before .piece-of .result .n) k ∙ ap (capped (a .room)) (omega (arith, e, s)) ∙ l .inv .2), c .longer .ensures)
@@ -53,4 +57,4 @@ returns-2 c =
 
 pub count-line-spec : {M : Type 1} → statement M
 count-line-spec =
-    tie.close (tie.spec Inv-loop μ-loop returns (λ c κs. search needs) (λ c κs. search needs) loop-holds (λ c. search needs) (λ c κs. search needs) piece-of-requires (λ c κs. search needs) longer-requires (λ c. search needs) (λ c. search needs) loop-again returns-2)
+    tie.close (tie.spec Inv-loop μ-loop returns (λ c κs. search needs) (λ c κs. search needs) loop-holds (λ c. search needs) (λ c κs. search needs) (λ c κs. search needs) (λ c κs. search needs) piece-of-requires (λ c κs. search needs) longer-requires add-i (λ c. search needs) loop-again returns-2)
