@@ -20,7 +20,7 @@ use Rattle.numbers.specs.Laws as laws
 use Rattle.geom.specs.Point.{one}
 use Rattle.geom.specs.Steps.{steps}
 use Rattle.polyline.specs.Line.{shortest}
-use Rattle.polyline.specs.Cuts.{squareSteps, Alike}
+use Rattle.polyline.specs.Cuts.{squareSteps, between, Told}
 
 shortest-above : (x : Float) → T (le shortest x) → T (lt zero64 x)
 unfolding shortest literal round lt
@@ -147,5 +147,5 @@ module _ (d lo hi len : Float) where
 
 -- every piece between takes as many
 pub alike-steps : (lo hi len most : Float) → T (finite most) → T (fits binary64 lo) → T (fits binary64 hi) → T (le shortest lo) → T (le lo hi) → T (le hi most) → T (lt zero64 len) → T (le len most)
-    → (n : ℕ) → n < 2 ^ 52 → n ≡ toUnsigned 64 (hi ⊘ len) → T (lt (real (pos n)) (lo ⊘ len)) → Alike lo hi len (n + 1)
-alike-steps lo hi len most m fl fh a b c p q n s e l = λ d f r t. decided d lo hi len n s (tried d lo hi len most m f fl fh a b c p q (laws.holds r) (laws.holds t)) e l
+    → (n : ℕ) → n < 2 ^ 52 → n ≡ toUnsigned 64 (hi ⊘ len) → T (lt (real (pos n)) (lo ⊘ len)) → Told len (between lo hi (n + 1))
+alike-steps lo hi len most m fl fh a b c p q n s e l = λ d f r t. (omega arith, decided d lo hi len n s (tried d lo hi len most m f fl fh a b c p q (laws.holds r) (laws.holds t)) e l)

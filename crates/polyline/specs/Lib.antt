@@ -3,3 +3,4 @@ pub mod Line
 pub mod LineLaws
 pub mod Cuts
 pub mod CutsLaws
+pub mod AlikeLaws

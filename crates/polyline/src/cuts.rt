@@ -1,7 +1,7 @@
 // How many stitches a piece takes: by squares where they decide, otherwise by the root.
 ghost use mathlib.Core.Path.{_≡_};
 ghost use Prim.Native.Nat.{_<_};
-ghost use Rattle.polyline.specs.Cuts.{squareSteps, Alike};
+ghost use Rattle.polyline.specs.Cuts.{squareSteps, between, Told};
 ghost use Rattle.polyline.specs.Line.{pieceSteps};
 use geom::P;
 use geom::steps::steps;
@@ -25,7 +25,7 @@ fn near_root(d: f64) -> f64 {
 
 // How many steps every piece takes whose squared length lies between those of lo and hi, where both of these tell as many; otherwise 0.
 pub fn alike(lo: f64, hi: f64, len: f64) -> u64
-    ensures { λ r. ⌜ (0 < r → Alike lo hi len r) ⌝ }
+    ensures { λ r. ⌜ (0 < r → Told len (between lo hi r)) ⌝ }
 {
     if 1e-9 <= lo {
         if lo <= hi {
@@ -47,7 +47,7 @@ pub fn alike(lo: f64, hi: f64, len: f64) -> u64
 }
 
 // The steps of a piece of squared length d, where what lies a little under its root and a little over it takes as many; otherwise 0.
-pub fn by_squares(d: f64, len: f64) -> u64
+fn by_squares(d: f64, len: f64) -> u64
     ensures { λ r. ⌜ (0 < r → r ≡ squareSteps d len) ⌝ }
 {
     let near = near_root(d);
@@ -71,15 +71,21 @@ fn by_root(d: f64, len: f64) -> u64
     steps(r, len)
 }
 
-// How many stitches lead from a to b: none where the piece is skipped.
-pub fn piece_steps(a: P, b: P, len: f64) -> u64
-    ensures { λ r. ⌜ r ≡ pieceSteps a b len ⌝ }
+// The steps of a piece of squared length d: by squares where they decide, otherwise by the root.
+pub fn square_steps(d: f64, len: f64) -> u64
+    ensures { λ r. ⌜ r ≡ squareSteps d len ⌝ }
 {
-    let v = a.minus(b);
-    let d = v.dot(v);
     let n = by_squares(d, len);
     if n > 0 {
         return n;
     }
     by_root(d, len)
+}
+
+// How many stitches lead from a to b: none where the piece is skipped.
+pub fn piece_steps(a: P, b: P, len: f64) -> u64
+    ensures { λ r. ⌜ r ≡ pieceSteps a b len ⌝ }
+{
+    let v = a.minus(b);
+    square_steps(v.dot(v), len)
 }

@@ -8,8 +8,12 @@ ghost use Rattle.geom.specs.Outline.{points};
 ghost use Rattle.geom.specs.Sewing.{flat, fitted};
 ghost use Rattle.polyline.specs.Line.{polylineLength, stepsFrom, pieces, resampleKeepCorners};
 
+pub mod alike;
 pub mod cuts;
 
+use alike::longer;
+use alike::piece_of;
+use alike::pieces_of;
 pub use cuts::piece_steps;
 use geom::P;
 use geom::sewing::add_within;
@@ -47,11 +51,16 @@ pub fn count_line(line: &[f64], len: f64, room: u64) -> u64
         return 0;
     }
     let mut p = corner(line, 0);
+    let one = pieces_of(1, len);
+    let mut s = one;
     let mut c: u64 = 1;
     let mut i = 2;
     while i + 1 < line.len() {
         let q = corner(line, i);
-        c = add_within(c, piece_steps(p, q, len), room);
+        let v = p.minus(q);
+        let r = piece_of(v.dot(v), len, one, s);
+        c = add_within(c, r.n, room);
+        s = longer(len, r, s);
         p = q;
         i += 2;
     }
@@ -79,11 +88,16 @@ fn put_pieces(out: &mut [f64], k: usize, line: &[f64], len: f64) -> usize
     ensures { λ r. ⌜ (now (out .exit) ≡ put (now (out .entry)) k (flat (pieces (points (now (line .entry))) len))) × (r ≡ k + length (flat (pieces (points (now (line .entry))) len))) ⌝ }
 {
     let mut p = corner(line, 0);
+    let one = pieces_of(1, len);
+    let mut s = one;
     let mut at = k;
     let mut i = 2;
     while i + 1 < line.len() {
         let q = corner(line, i);
-        at = put_piece(out, at, p, q, piece_steps(p, q, len));
+        let v = p.minus(q);
+        let r = piece_of(v.dot(v), len, one, s);
+        at = put_piece(out, at, p, q, r.n);
+        s = longer(len, r, s);
         p = q;
         i += 2;
     }

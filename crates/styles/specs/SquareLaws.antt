@@ -1,6 +1,5 @@
 -- What a squared length tells of its root. Assumes nothing.
-use Prim.Native.Nat.{ℕ, _^_, _<_}
-use native.Mathlib.Omega.{arith}
+use Prim.Native.Nat.{_^_}
 use mathlib.Core.Path.{_≡_, refl, sym, _∙_}
 use mathlib.Core.Bool.{Bool, true, false}
 use mathlib.Core.Logic.{inl, inr}
@@ -10,16 +9,10 @@ use Rattle.numbers.specs.Num.{_⊗_, literal, zero64}
 use Rattle.numbers.specs.Root.{isqrt, nearRoot, rootUnits, root}
 use Rattle.numbers.specs.Laws as laws
 use Rattle.numbers.specs.Laws.{holds}
-use Rattle.seqs.specs.Tests.{either, refute}
+use Rattle.seqs.specs.Tests.{refute}
 use Rattle.geom.specs.declared.point.P.{P}
-use Rattle.geom.specs.Point.{minus, dot, len, dist}
-use Rattle.geom.specs.Steps.{steps}
-use Rattle.polyline.specs.Line.{shortest}
-use Rattle.polyline.specs.Cuts.{squareSteps}
-use Rattle.polyline.specs.Cuts as cuts
+use Rattle.geom.specs.Point.{minus, dot, len}
 use Rattle.satinrules.specs.Column.{bends}
-use Rattle.styles.specs.declared.split.Alike.{Alike}
-use Rattle.styles.specs.Sides.{Told}
 
 -- ---- 6, its square, and the float after that
 root-six : root (literal 36 1) ≡ literal 6 1
@@ -62,28 +55,3 @@ module _ (p q v : P) (d : Float) (e : v ≡ minus q p) (g : d ≡ dot v v) where
 
   pub bent : le past d ≡ true → true ≡ bends p q
   bent h = sym (over-six d (square-fits v d g) (holds h)) ∙ bends-square
-
--- ---- the points of a split side
-
--- what the squares tell of a piece, they tell of its root
-pub square-steps : (d max : Float) (n : ℕ) → 0 < n → n ≡ squareSteps d max → n ≡ steps (root d) max
-unfolding squareSteps
-square-steps d max n h e = elim (either (lt (root d) shortest)) [
-  | inl s ↦ absurd (omega (arith, h, rw s at e))
-  | inr s ↦ rw s at e
-]
-
-pub told-none : (max : Float) (n : ℕ) → Told max (record { from = zero64; to = zero64; n = n })
-told-none max n = λ d f h k. absurd (laws.lt-irrefl zero64 (laws.lt-trans zero64 d zero64 (holds h) (holds k)))
-
-pub told-alike : (lo hi max : Float) (n : ℕ) → 0 < n → cuts.Alike lo hi max n → Told max (record { from = lo ⊗ lo; to = hi ⊗ hi; n = n })
-told-alike lo hi max n z a = λ d f h k. square-steps d max n z (a d f h k)
-
--- d is the squared length from p to q
-module _ (p q v : P) (d max : Float) (e : v ≡ minus p q) (g : d ≡ dot v v) where
-  pub side-steps : {n : ℕ} → n ≡ steps (root d) max → n ≡ steps (dist p q) max
-  unfolding dist len
-  side-steps h = h ∙ rw (g, e)
-
-  pub side-told : (s : Alike) → Told max s → lt (s .from) d ≡ true → lt d (s .to) ≡ true → s .n ≡ steps (dist p q) max
-  side-told s t h k = side-steps (t d (square-fits v d g) h k)

@@ -5,22 +5,23 @@ ghost use Prim.Native.Nat.{_+_, _-_, _*_, _^_, _<_, _≤_};
 ghost use lib.ListN.{length};
 ghost use Rattle.refusal.specs.Sewn.{sewn, output};
 ghost use Rattle.seqs.specs.Slices.{put, capped};
-ghost use Rattle.numbers.specs.Root.{root};
 ghost use Rattle.geom.specs.Outline.{points};
 ghost use Rattle.geom.specs.Point.{dist};
 ghost use Rattle.geom.specs.Steps.{steps};
 ghost use Rattle.geom.specs.Sewing.{flat, fitted};
+ghost use Rattle.polyline.specs.Cuts.{Told};
 ghost use Rattle.satinrules.specs.Column.{stagger, partEnd, partsFrom, splitSide, splitLong};
-ghost use Rattle.styles.specs.Sides.{sideTo, laterSides, Told};
+ghost use Rattle.styles.specs.Sides.{sideTo, laterSides};
 use geom::P;
 use geom::sewing::add_within;
 use geom::sewing::corner;
 use geom::sewing::put_point;
 use geom::steps::steps;
 use leaves::of_u64;
-use leaves::root;
-use polyline::cuts::alike;
-use polyline::cuts::by_squares;
+use polyline::alike::Alike;
+use polyline::alike::longer;
+use polyline::alike::piece_of;
+use polyline::alike::pieces_of;
 use refusal::DONE;
 use refusal::ROOM;
 use refusal::Sewn;
@@ -38,76 +39,17 @@ fn stagger(k: u64) -> f64
     -0.33
 }
 
-// Sides whose squared length lies between `from` and `to` have n points, their last among them.
-pub struct Alike {
-    pub from: f64,
-    pub to: f64,
-    pub n: u64,
-}
-
-// How many points a side of squared length d has: by squares where they decide, otherwise by the root.
-fn points_of(d: f64, max: f64) -> u64
-    ensures { λ r. ⌜ r ≡ steps (root d) max ⌝ }
-{
-    let n = by_squares(d, max);
-    if n > 0 {
-        return n;
-    }
-    steps(root(d), max)
-}
-
-// Which sides have n points: those a little longer than n - 1 times max, and a little shorter than n times.
-fn sides_of(n: u64, max: f64) -> Alike
-    ensures { λ r. ⌜ Told max r × (r .n ≡ n) ⌝ }
-{
-    let most = of_u64(n) * max;
-    let lo = (most - max) * 1.0000001 + 1e-9;
-    let hi = most * 0.9999999;
-    if n > 0 {
-        if alike(lo, hi, max) == n {
-            return Alike {
-                from: lo * lo,
-                to: hi * hi,
-                n: n,
-            };
-        }
-    }
-    Alike {
-        from: 0.0,
-        to: 0.0,
-        n: n,
-    }
-}
-
-// Sides like the one from p to q: those like s, those with one point, or others, which are looked at anew.
+// Sides like the one from p to q, by their points, the last among them: a side that resampling would skip has points too.
 fn side_of(p: P, q: P, max: f64, one: Alike, s: Alike) -> Alike
     requires { ⌜ Told max one × Told max s ⌝ }
     ensures { λ r. ⌜ Told max r × (r .n ≡ steps (dist p q) max) ⌝ }
 {
     let v = p.minus(q);
-    let d = v.dot(v);
-    if s.from < d {
-        if d < s.to {
-            return s;
-        }
-    }
-    if one.from < d {
-        if d < one.to {
-            return one;
-        }
-    }
-    sides_of(points_of(d, max), max)
-}
-
-// What is known of longer sides, after a side like r.
-fn longer(max: f64, r: Alike, s: Alike) -> Alike
-    requires { ⌜ Told max r × Told max s ⌝ }
-    ensures { λ t. ⌜ Told max t ⌝ }
-{
-    if r.n > 1 {
+    let r = piece_of(v.dot(v), max, one, s);
+    if r.n > 0 {
         return r;
     }
-    s
+    pieces_of(steps(p.dist(q), max), max)
 }
 
 // Where part j of n ends.
@@ -155,7 +97,7 @@ pub fn count_split(line: &[f64], max: f64, room: u64) -> u64
         return 0;
     }
     let mut p = corner(line, 0);
-    let one = sides_of(1, max);
+    let one = pieces_of(1, max);
     let mut s = one;
     let mut c: u64 = 1;
     let mut i = 2;
@@ -176,7 +118,7 @@ fn put_sides(out: &mut [f64], k: usize, line: &[f64], max: f64) -> usize
     ensures { λ r. ⌜ (now (out .exit) ≡ put (now (out .entry)) k (flat (laterSides (splitSide max) (now (line .entry))))) × (r ≡ k + length (flat (laterSides (splitSide max) (now (line .entry))))) ⌝ }
 {
     let mut p = corner(line, 0);
-    let one = sides_of(1, max);
+    let one = pieces_of(1, max);
     let mut s = one;
     let mut to = k;
     let mut side: u64 = 0;

@@ -7,8 +7,8 @@ use Rattle.seqs.specs.Slices.{capped}
 use Rattle.seqs.specs.Capped.{capped-in, capped-small, capped-on, capped-still}
 use Rattle.geom.specs.Outline.{points}
 use Rattle.geom.specs.OutlineLaws.{cornerAt}
+use Rattle.polyline.specs.Cuts.{Told}
 use Rattle.satinrules.specs.Column.{sidesFrom, splitSide, splitLong}
-use Rattle.styles.specs.Sides.{Told}
 use Rattle.styles.specs.SidesLaws.{sides-none, sides-end, count-start, count-turn, split-length}
 use borrow.Author.Needs.{needs}
 use Rattle.styles.proofs.split.count_split.Statement.{statement}
@@ -30,10 +30,10 @@ loop-holds : tie.Need-loop-holds Inv-loop μ-loop
 unfolding splitLong
 loop-holds c =
     let a = c .before .before .before .before .args in
-    (search needs, search needs, omega arith, rw (c .before .corner .ensures) (ap (capped (a .room)) (sym (count-start (splitSide (a .max)) (a .line .now) (search needs)))), c .sides-of .ensures .0)
+    (search needs, search needs, omega arith, rw (c .before .corner .ensures) (ap (capped (a .room)) (sym (count-start (splitSide (a .max)) (a .line .now) (search needs)))), c .pieces-of .ensures .0)
 
 side-of-requires : tie.Need-side-of-requires Inv-loop μ-loop
-side-of-requires c κs = (c .before .before .before .sides-of .ensures .0, c .before .before .loop .inv .4)
+side-of-requires c κs = (c .before .before .before .pieces-of .ensures .0, c .before .before .loop .inv .4)
 
 longer-requires : tie.Need-longer-requires Inv-loop μ-loop
 longer-requires c κs = (c .before .side-of .ensures .0, c .before .before .before .before .loop .inv .4)

@@ -9,8 +9,9 @@ use Rattle.seqs.specs.Wrote.{put-end}
 use Rattle.geom.specs.Outline.{points}
 use Rattle.geom.specs.Sewing.{flat}
 use Rattle.geom.specs.SewingLaws.{flat-none}
+use Rattle.polyline.specs.Cuts.{Told}
 use Rattle.satinrules.specs.Column.{sidesFrom, splitSide}
-use Rattle.styles.specs.Sides.{laterSides, Told}
+use Rattle.styles.specs.Sides.{laterSides}
 use Rattle.styles.specs.SidesLaws.{sides-end}
 use Rattle.styles.proofs.Turns.{side-room, side-put}
 use borrow.Author.Needs.{needs}
@@ -26,10 +27,10 @@ abbrev μ-loop : tie.MeasureT-loop
 loop-holds : tie.Need-loop-holds Inv-loop μ-loop
 loop-holds c =
     let a = c .before .before .before .before .args in
-    (search needs, search needs, rw (c .before .corner .ensures) (front-from (a .out .now) (flat (laterSides (splitSide (a .max)) (a .line .now))) (a .k) (omega (arith, c .before .before .before .before .pre .1))), c .sides-of .ensures .0)
+    (search needs, search needs, rw (c .before .corner .ensures) (front-from (a .out .now) (flat (laterSides (splitSide (a .max)) (a .line .now))) (a .k) (omega (arith, c .before .before .before .before .pre .1))), c .pieces-of .ensures .0)
 
 side-of-requires : tie.Need-side-of-requires Inv-loop μ-loop
-side-of-requires c κs = (c .before .before .before .sides-of .ensures .0, c .before .before .loop .inv .3)
+side-of-requires c κs = (c .before .before .before .pieces-of .ensures .0, c .before .before .loop .inv .3)
 
 put-side-requires : tie.Need-put-side-requires Inv-loop μ-loop
 put-side-requires c κs =
