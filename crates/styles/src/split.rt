@@ -20,8 +20,8 @@ use geom::steps::steps;
 use leaves::of_u64;
 use polyline::alike::Alike;
 use polyline::alike::longer;
-use polyline::alike::piece_of;
 use polyline::alike::pieces_of;
+use polyline::piece_steps;
 use refusal::DONE;
 use refusal::ROOM;
 use refusal::Sewn;
@@ -39,17 +39,35 @@ fn stagger(k: u64) -> f64
     -0.33
 }
 
-// Sides like the one from p to q, by their points, the last among them: a side that resampling would skip has points too.
+// How many points a side has, its last among them: a side that resampling would skip has some too.
+fn points_of(p: P, q: P, max: f64) -> u64
+    ensures { λ r. ⌜ r ≡ steps (dist p q) max ⌝ }
+{
+    let n = piece_steps(p, q, max);
+    if n > 0 {
+        return n;
+    }
+    steps(p.dist(q), max)
+}
+
+// Sides like the one from p to q: those with one point, those like s, or others, which are looked at anew.
 fn side_of(p: P, q: P, max: f64, one: Alike, s: Alike) -> Alike
     requires { ⌜ Told max one × Told max s ⌝ }
     ensures { λ r. ⌜ Told max r × (r .n ≡ steps (dist p q) max) ⌝ }
 {
     let v = p.minus(q);
-    let r = piece_of(v.dot(v), max, one, s);
-    if r.n > 0 {
-        return r;
+    let d = v.dot(v);
+    if one.from < d {
+        if d < one.to {
+            return one;
+        }
     }
-    pieces_of(steps(p.dist(q), max), max)
+    if s.from < d {
+        if d < s.to {
+            return s;
+        }
+    }
+    pieces_of(points_of(p, q, max), max)
 }
 
 // Where part j of n ends.
