@@ -322,7 +322,7 @@ fn random_bytes() {
     let Some(program) = program() else { return };
     let mut rng = Rng::new(1, "random bytes");
     let mut met = [0; 8];
-    for n in 0..3000 {
+    for n in 0..1500 {
         let mut bytes = match n % 4 {
             0 => (0..rng.below(200)).map(|_| rng.next() as u8).collect(),
             1 => {
@@ -343,7 +343,7 @@ fn random_bytes() {
         }
         met[check(&program, &bytes) as usize] += 1;
     }
-    assert!(met[0] > 300 && met[1] > 300, "answers met: {met:?}");
+    assert!(met[0] > 150 && met[1] > 150, "answers met: {met:?}");
 }
 
 fn generated(rng: &mut Rng, n: usize) -> Vec<Vec<u8>> {
