@@ -185,7 +185,7 @@ fn write(
     }
 }
 
-// The same, with the outline's heights. Each piece adds two points and one run at most: where that has room, nothing is counted first.
+// The runs and their ends, or ROOM and nothing, by the outline's heights h. Each piece adds two points and one run at most: where that has room, nothing is counted first.
 fn clip_by(
     line: &[f64],
     corners: &[f64],
@@ -232,7 +232,7 @@ fn clip_by(
     }
 }
 
-// The runs and their ends, or ROOM and nothing.
+// The same for an outline alone: its heights are worked out once a line.
 pub fn clip_inside(
     line: &[f64],
     corners: &[f64],
