@@ -18,6 +18,7 @@ use Rattle.numbers.specs.Laws.{holds}
 use Rattle.seqs.specs.Tests.{clash, is-true, refute}
 use Rattle.seqs.specs.Lists.{All}
 use Rattle.seqs.specs.All.{all-at}
+use Rattle.seqs.specs.Reads.{read-any}
 use Rattle.geom.specs.declared.point.P.{P}
 use Rattle.geom.specs.Point.{point}
 use Rattle.geom.specs.Outline.{points}
@@ -133,11 +134,6 @@ module _ (t : List Float) (b : ℕ) (p : P) where
   pub beside-left : lt right (p .x) ≡ true → Within 20 (p .x) → Within 20 (p .y) → Beside t b p
   beside-left q wide tall l h = chain-left p l wide tall (all-left lo hi right p l h q)
 
-same-at : (l : List P) (i : ℕ) (a b : P) → i < length l → getD l i a ≡ getD l i b
-same-at [] i a b h = absurd (omega arith)
-same-at (x ∷ l) zero a b h = refl
-same-at (x ∷ l) (suc i) a b h = same-at l i a b (omega arith)
-
 -- a ring that p lies beside: its last corner comes first
 pub ring-beside : (t : List Float) (b : ℕ) (p : P) (l : List P) → Beside t b p → 3 * b + 2 < length t → Block b l t → ring p l ≡ pos 0
 unfolding ring
@@ -147,7 +143,7 @@ ring-beside t b p l f s h = go (ltb (length l) 3) refl
     z = point zero64 zero64
 
     all : 0 < length l → (k : ℕ) → k < length (getD l (length l - 1) z ∷ l) → LiesIn t b (getD (getD l (length l - 1) z ∷ l) k (point nan nan))
-    all n zero q = subst (LiesIn t b) (same-at l (length l - 1) (point nan nan) z (omega arith)) (h (length l - 1) s (omega arith))
+    all n zero q = subst (LiesIn t b) (read-any l (length l - 1) (point nan nan) z (omega arith)) (h (length l - 1) s (omega arith))
     all n (suc k) q = h k s (omega arith)
 
     go : (c : Bool) → ltb (length l) 3 ≡ c → cond c (pos 0) (edges p (getD l (length l - 1) z) l) ≡ pos 0
