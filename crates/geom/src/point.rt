@@ -1,7 +1,7 @@
 // Points and the plain operations on them, each rounded once, in the source's order.
 ghost use mathlib.Core.Path.{_≡_};
 ghost use Rattle.geom.specs.Point.{plus, minus, times, dot, len, dist, norm, perp, rotate, lerp, cross};
-use leaves::root;
+use leaves::quick::root;
 
 pub struct P {
     pub x: f64,

@@ -5,6 +5,7 @@ pub mod cast;
 pub mod checked;
 pub mod digits;
 pub mod order;
+pub mod quick;
 pub mod whole;
 
 pub use bits::of_bits;

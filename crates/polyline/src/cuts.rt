@@ -7,7 +7,7 @@ use geom::P;
 use geom::steps::steps;
 use leaves::of_bits;
 use leaves::of_u64;
-use leaves::root;
+use leaves::quick::root;
 use leaves::to_bits;
 use leaves::to_u64;
 

@@ -12,7 +12,7 @@ use crate::row::target_at;
 use geom::P;
 use leaves::ceil;
 use leaves::of_u64;
-use leaves::root;
+use leaves::quick::root;
 use leaves::to_u64;
 
 // Squared lengths that decide with no root: up to `one` a step isn't cut, from `from` to `two` it is cut once.

@@ -15,7 +15,7 @@ use geom::P;
 use geom::sewing::add_within;
 use geom::sewing::corner;
 use geom::sewing::put_point;
-use leaves::root;
+use leaves::quick::root;
 use leaves::smaller;
 use refusal::DONE;
 use refusal::ROOM;
