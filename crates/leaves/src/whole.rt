@@ -3,6 +3,7 @@ ghost use mathlib.Core.Path.{_≡_};
 ghost use mathlib.Core.Bool.{cond};
 ghost use lib.Ieee.{neg};
 ghost use Rattle.numbers.specs.Whole.{wholeOf, floor, ceil};
+use crate::cast::of_u64;
 use crate::order::is_negative;
 use crate::order::magnitude;
 
@@ -20,11 +21,11 @@ fn whole(x: f64, away: bool) -> f64
     let a = magnitude(x);
     if a < 9007199254740992.0 {
         let n = std::num::truncating_f64_to_u64(a);
-        let t = std::num::nearest_u64_to_f64(n);
+        let t = of_u64(n);
         let s = is_negative(x);
         if away {
             if t < a {
-                return signed(s, std::num::nearest_u64_to_f64(n + 1));
+                return signed(s, of_u64(n + 1));
             }
             return signed(s, t);
         }

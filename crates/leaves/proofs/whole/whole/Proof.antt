@@ -19,20 +19,20 @@ truncating-f64-to-u64-requires : tie.Need-truncating-f64-to-u64-requires
 unfolding ofBits
 truncating-f64-to-u64-requires c κs = in-range (c .before .magnitude .result) (c .before .before .args .x) (c .before .magnitude .ensures) (c .if1 .taken)
 
-nearest-u64-to-f64-requires : tie.Need-nearest-u64-to-f64-requires
-nearest-u64-to-f64-requires c κs = search needs
+of-u64-requires : tie.Need-of-u64-requires
+of-u64-requires c κs = search needs
 
 is-negative-requires : tie.Need-is-negative-requires
 is-negative-requires c κs = search needs
 
-add-nearest-u64-to-f64 : tie.Need-add-nearest-u64-to-f64
+add-of-u64 : tie.Need-add-of-u64
 unfolding ofBits
-add-nearest-u64-to-f64 c =
+add-of-u64 c =
     let cut = c .before .before .before .before in
     omega (arith, cut .truncating-f64-to-u64 .ensures, count-lt (cut .before .before .magnitude .result) (cut .before .before .before .args .x) (cut .before .before .magnitude .ensures) (cut .before .if1 .taken))
 
-nearest-u64-to-f64-requires-2 : tie.Need-nearest-u64-to-f64-requires-2
-nearest-u64-to-f64-requires-2 c κs = search needs
+of-u64-requires-2 : tie.Need-of-u64-requires-2
+of-u64-requires-2 c κs = search needs
 
 signed-requires : tie.Need-signed-requires
 signed-requires c κs = search needs
@@ -44,9 +44,9 @@ returns c =
     let flt = neg .before in
     let cut = flt .before in
     let mag = cut .before .before in
-    returns-away (mag .before .args .x) (mag .magnitude .result) (flt .nearest-u64-to-f64 .result) (cut .truncating-f64-to-u64 .result) (neg .is-negative .result)
-    (mag .magnitude .ensures) (cut .before .if1 .taken) (cut .truncating-f64-to-u64 .ensures) (flt .nearest-u64-to-f64 .ensures) (neg .is-negative .ensures)
-    (c .before .nearest-u64-to-f642 .result) (c .signed .result) (c .before .nearest-u64-to-f642 .ensures) (c .signed .ensures) (c .before .before .if3 .taken)
+    returns-away (mag .before .args .x) (mag .magnitude .result) (flt .of-u64 .result) (cut .truncating-f64-to-u64 .result) (neg .is-negative .result)
+    (mag .magnitude .ensures) (cut .before .if1 .taken) (cut .truncating-f64-to-u64 .ensures) (flt .of-u64 .ensures) (neg .is-negative .ensures)
+    (c .before .of-u642 .result) (c .signed .result) (c .before .of-u642 .ensures) (c .signed .ensures) (c .before .before .if3 .taken)
     ∙ ap (λ (t : Bool). wholeOf t (mag .before .args .x)) (sym (c .before .before .before .if2 .taken))
 
 signed-requires-2 : tie.Need-signed-requires-2
@@ -59,8 +59,8 @@ returns-2 c =
     let flt = neg .before in
     let cut = flt .before in
     let mag = cut .before .before in
-    returns-level (mag .before .args .x) (mag .magnitude .result) (flt .nearest-u64-to-f64 .result) (cut .truncating-f64-to-u64 .result) (neg .is-negative .result)
-    (mag .magnitude .ensures) (cut .before .if1 .taken) (cut .truncating-f64-to-u64 .ensures) (flt .nearest-u64-to-f64 .ensures) (neg .is-negative .ensures)
+    returns-level (mag .before .args .x) (mag .magnitude .result) (flt .of-u64 .result) (cut .truncating-f64-to-u64 .result) (neg .is-negative .result)
+    (mag .magnitude .ensures) (cut .before .if1 .taken) (cut .truncating-f64-to-u64 .ensures) (flt .of-u64 .ensures) (neg .is-negative .ensures)
     (c .signed2 .result) (c .signed2 .ensures) (c .before .if3 .left)
     ∙ ap (λ (t : Bool). wholeOf t (mag .before .args .x)) (sym (c .before .before .if2 .taken))
 
@@ -74,8 +74,8 @@ returns-3 c =
     let flt = neg .before in
     let cut = flt .before in
     let mag = cut .before .before in
-    returns-toward (mag .before .args .x) (mag .magnitude .result) (flt .nearest-u64-to-f64 .result) (cut .truncating-f64-to-u64 .result) (neg .is-negative .result)
-    (mag .magnitude .ensures) (cut .before .if1 .taken) (cut .truncating-f64-to-u64 .ensures) (flt .nearest-u64-to-f64 .ensures) (neg .is-negative .ensures)
+    returns-toward (mag .before .args .x) (mag .magnitude .result) (flt .of-u64 .result) (cut .truncating-f64-to-u64 .result) (neg .is-negative .result)
+    (mag .magnitude .ensures) (cut .before .if1 .taken) (cut .truncating-f64-to-u64 .ensures) (flt .of-u64 .ensures) (neg .is-negative .ensures)
     (c .signed3 .result) (c .signed3 .ensures)
     ∙ ap (λ (t : Bool). wholeOf t (mag .before .args .x)) (sym (c .before .if2 .left))
 
@@ -91,10 +91,10 @@ whole-spec =
     (tie.spec
     magnitude-requires
     truncating-f64-to-u64-requires
-    nearest-u64-to-f64-requires
+    of-u64-requires
     is-negative-requires
-    add-nearest-u64-to-f64
-    nearest-u64-to-f64-requires-2
+    add-of-u64
+    of-u64-requires-2
     signed-requires
     returns
     signed-requires-2
