@@ -140,3 +140,38 @@ pub fn along<'a, 'b>(pts: &'a [f64], cum: &'b [f64], s: f64) -> P
 {
     walker_at(Walker { pts }, cum, s)
 }
+
+// The first corner from k on that lies beyond s: where the side may end that s lies on. Nothing is promised of it, as it is tried.
+pub fn side_from(cum: &[f64], s: f64, k: usize) -> usize {
+    let mut i = k;
+    while i < cum.len() {
+        if s < cum[i] {
+            return i;
+        }
+        i += 1;
+    }
+    i
+}
+
+// The same point. Places mostly go on from the last one, so the side that ends at corner k is tried first, and then the whole rail.
+pub fn along_from(pts: &[f64], cum: &[f64], s: f64, k: usize) -> P
+    requires { ⌜ Railed (now pts) (now cum) ⌝ }
+    ensures { λ p. ⌜ p ≡ at (points (now (pts .entry))) (now (cum .entry)) s ⌝ }
+{
+    if 0 < k {
+        if k < cum.len() {
+            let h = k - 1;
+            if 0.0 <= s {
+                if cum[h] <= s {
+                    if s < cum[k] {
+                        let e = k + 1;
+                        let b = 2 * h;
+                        let d = 2 * e;
+                        return along(&pts[b..d], &cum[h..e], s);
+                    }
+                }
+            }
+        }
+    }
+    along(pts, cum, s)
+}

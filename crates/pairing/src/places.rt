@@ -1,11 +1,12 @@
 // The places of the pairs, handed out one at a time: no slice is needed to count them.
 ghost use mathlib.Core.Path.{_≡_};
 ghost use mathlib.Core.Bool.{true, false, cond};
-ghost use mathlib.Core.List.{[], _∷_};
+ghost use mathlib.Core.List.{List, [], _∷_};
 ghost use Prim.Native.Nat.{_+_, _-_, _^_, _<_};
 ghost use lib.ListN.{length, drop};
 ghost use lib.Ieee.{Float};
 ghost use Rattle.numbers.specs.Num.{_⊖_, _⊕_, zero64};
+ghost use Rattle.geom.specs.declared.point.P.{P};
 ghost use Rattle.geom.specs.Outline.{points};
 ghost use Rattle.satinrules.specs.Pairs.{origin, grows, kept, centre, totalOf, placeAt, windows};
 ghost use Rattle.pairing.specs.Walk.{restOf, leftOf, foundOf, passOf, walkPlaces, goesOn};
@@ -207,8 +208,20 @@ fn stepped(k: Walk, step: f64) -> Walk
     }
 }
 
-// The next place of the walk, in this window or a later one.
-pub fn next_place(sync: &[f64], ends: P, step: f64, walk: Walk) -> Found
+// The place where the walk stands in its window, and the walk after it.
+fn place_of(k: Walk, step: f64) -> Found
+    requires { ⌜ goesOn k ≡ true ⌝ }
+    ensures { λ r. ⌜ ((ends : P) (sync : List Float) → leftOf step ends sync k ≡ foundOf step ends sync r) × (cond (r .found) (r .walk .left + 1) (k .left) ≡ k .left) ⌝ }
+{
+    Found {
+        found: true,
+        place: place_at(k.from, k.to, k.s),
+        walk: stepped(k, step),
+    }
+}
+
+// The next place of a walk that has come to the end of its window.
+fn later_place(sync: &[f64], ends: P, step: f64, walk: Walk) -> Found
     ensures { λ r. ⌜ (leftOf step ends (now (sync .entry)) walk ≡ foundOf step ends (now (sync .entry)) r) × (cond (r .found) (r .walk .left + 1) (walk .left) ≡ walk .left) ⌝ }
 {
     let mut k = walk;
@@ -222,11 +235,17 @@ pub fn next_place(sync: &[f64], ends: P, step: f64, walk: Walk) -> Found
         }
         k = next_window(sync, ends, k);
     }
-    Found {
-        found: true,
-        place: place_at(k.from, k.to, k.s),
-        walk: stepped(k, step),
+    place_of(k, step)
+}
+
+// The next place of the walk. Most stand in the window of the last one: only that is in a loop's own text.
+pub fn next_place(sync: &[f64], ends: P, step: f64, walk: Walk) -> Found
+    ensures { λ r. ⌜ (leftOf step ends (now (sync .entry)) walk ≡ foundOf step ends (now (sync .entry)) r) × (cond (r .found) (r .walk .left + 1) (walk .left) ≡ walk .left) ⌝ }
+{
+    if goes(walk) {
+        return place_of(walk, step);
     }
+    later_place(sync, ends, step, walk)
 }
 
 // The first place of a pass.

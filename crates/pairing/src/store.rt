@@ -14,8 +14,9 @@ ghost use Rattle.pairing.specs.Store.{Laid, Sound, storedPairs};
 use crate::places::Pass;
 use crate::places::first_place;
 use crate::places::next_place;
-use arc::along;
+use arc::along_from;
 use arc::put_lengths;
+use arc::side_from;
 use geom::P;
 use geom::sewing::put_point;
 use satinrules::Pair;
@@ -29,16 +30,32 @@ pub fn put_rails(rails: &mut [f64], a: &[f64], b: &[f64])
     put_lengths(rails, a.len() / 2, b);
 }
 
-// The pair at a place.
-pub fn pair_at(rails: &[f64], a: &[f64], b: &[f64], place: P) -> Pair
+// The corners at which the sides end that the last pair was found on.
+pub struct Sides {
+    pub a: usize,
+    pub b: usize,
+}
+
+// A pair, and the sides that it was found on.
+pub struct Met {
+    pub pair: Pair,
+    pub sides: Sides,
+}
+
+// The pair at a place, which is looked for from the last pair's sides on.
+pub fn pair_at(rails: &[f64], a: &[f64], b: &[f64], place: P, last: Sides) -> Met
     requires { ⌜ Laid (now a) (now b) (now rails) ⌝ }
-    ensures { λ r. ⌜ r ≡ record { a = railAt (points (now (a .entry))) (place .x); b = railAt (points (now (b .entry))) (place .y) } ⌝ }
+    ensures { λ r. ⌜ r .pair ≡ record { a = railAt (points (now (a .entry))) (place .x); b = railAt (points (now (b .entry))) (place .y) } ⌝ }
 {
     let m = a.len() / 2;
     let n = b.len() / 2;
-    let p = along(a, &rails[0..m], place.x);
-    let q = along(b, &rails[m..m + n], place.y);
-    Pair { a: p, b: q }
+    let i = side_from(&rails[0..m], place.x, last.a);
+    let j = side_from(&rails[m..m + n], place.y, last.b);
+    let p = along_from(a, &rails[0..m], place.x, i);
+    let q = along_from(b, &rails[m..m + n], place.y, j);
+    let pair = Pair { a: p, b: q };
+    let sides = Sides { a: i, b: j };
+    Met { pair, sides }
 }
 
 // Both points of a pair, from `to` on.
@@ -66,14 +83,19 @@ pub fn lay_pairs(
     ensures { λ _. ⌜ (length (now (w .exit)) ≡ length (now (w .entry))) × (take (4 * length (walkPlaces ends (points (now (sync .entry))) pass)) (now (w .exit)) ≡ storedPairs (now (a .entry)) (now (b .entry)) (now (sync .entry)) (walkPlaces ends (points (now (sync .entry))) pass)) ⌝ }
 {
     let mut f = first_place(sync, ends, pass);
+    let mut last = Sides { a: 1, b: 1 };
     let mut to = 0;
     while f.found {
-        let q = pair_at(rails, a, b, f.place);
+        let m = pair_at(rails, a, b, f.place, last);
+        let q = m.pair;
+        let sides = m.sides;
         put_pair(w, to, q);
+        last = sides;
         let walk = f.walk;
         f = next_place(sync, ends, pass.step, walk);
         to += 4;
     }
-    let q = pair_at(rails, a, b, ends);
+    let m = pair_at(rails, a, b, ends, last);
+    let q = m.pair;
     put_pair(w, to, q);
 }

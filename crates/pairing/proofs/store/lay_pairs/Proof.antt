@@ -18,10 +18,10 @@ use Rattle.pairing.proofs.store.lay_pairs.Statement.{statement}
 use Rattle.pairing.proofs.store.lay_pairs.Tie as tie
 
 abbrev Inv-loop : tie.InvT-loop
-Inv-loop w₀ rails a b sync ends pass f₀ to₀ w f to = Front w₀ w to (storedPairs a b sync (foundOf (pass .step) ends sync f ++ (ends ∷ []))) (storedPairs a b sync (walkPlaces ends (points sync) pass))
+Inv-loop w₀ rails a b sync ends pass f₀ last₀ to₀ w f last to = Front w₀ w to (storedPairs a b sync (foundOf (pass .step) ends sync f ++ (ends ∷ []))) (storedPairs a b sync (walkPlaces ends (points sync) pass))
 
 abbrev μ-loop : tie.MeasureT-loop
-μ-loop w₀ rails a b sync ends pass f₀ to₀ w f to = atMost f
+μ-loop w₀ rails a b sync ends pass f₀ last₀ to₀ w f last to = atMost f
 
 loop-holds : tie.Need-loop-holds Inv-loop μ-loop
 unfolding walkPlaces
@@ -31,61 +31,61 @@ loop-holds c =
 
 put-pair-requires : tie.Need-put-pair-requires Inv-loop μ-loop
 put-pair-requires c κs =
-    let a = c .before .before .before .before .before .before .before .before .before .before .args in
-    let l = c .before .before .before .loop in
+    let a = c .before .before .before .before .before .before .before .before .before .before .before .before .args in
+    let l = c .before .before .before .before .before .loop in
     let ps = walkPlaces (a .ends) (points (a .sync .now)) (a .pass) in
-    let u = front-at (ap (λ x. storedPairs (a .a .now) (a .b .now) (a .sync .now) (x ++ (a .ends ∷ []))) (found-more (a .pass .step) (a .ends) (a .sync .now) (l .f) (c .before .before .loop-test .taken))) (l .inv) in
-    pair-room (a .a .now) (a .b .now) (a .sync .now) (l .f .place) (leftOf (a .pass .step) (a .ends) (a .sync .now) (l .f .walk) ++ (a .ends ∷ [])) ps u (c .before .before .before .before .before .before .before .before .before .before .pre .1)
+    let u = front-at (ap (λ x. storedPairs (a .a .now) (a .b .now) (a .sync .now) (x ++ (a .ends ∷ []))) (found-more (a .pass .step) (a .ends) (a .sync .now) (l .f) (c .before .before .before .before .loop-test .taken))) (l .inv) in
+    pair-room (a .a .now) (a .b .now) (a .sync .now) (l .f .place) (leftOf (a .pass .step) (a .ends) (a .sync .now) (l .f .walk) ++ (a .ends ∷ [])) ps u (c .before .before .before .before .before .before .before .before .before .before .before .before .pre .1)
 
 add-to : tie.Need-add-to Inv-loop μ-loop
 add-to c =
-    let a = c .before .before .before .before .before .before .before .before .before .before .before .before .before .before .before .args in
-    let l = c .before .before .before .before .before .before .before .before .loop in
+    let a = c .before .before .before .before .before .before .before .before .before .before .before .before .before .before .before .before .before .args in
+    let l = c .before .before .before .before .before .before .before .before .before .before .loop in
     let ps = walkPlaces (a .ends) (points (a .sync .now)) (a .pass) in
-    let u = front-at (ap (λ x. storedPairs (a .a .now) (a .b .now) (a .sync .now) (x ++ (a .ends ∷ []))) (found-more (a .pass .step) (a .ends) (a .sync .now) (l .f) (c .before .before .before .before .before .before .before .loop-test .taken))) (l .inv) in
-    omega (arith, pair-room (a .a .now) (a .b .now) (a .sync .now) (l .f .place) (leftOf (a .pass .step) (a .ends) (a .sync .now) (l .f .walk) ++ (a .ends ∷ [])) ps u (c .before .before .before .before .before .before .before .before .before .before .before .before .before .before .before .pre .1), l .inv .len, c .before .before .before .before .before .before .before .before .before .before .before .before .before .before .before .good)
+    let u = front-at (ap (λ x. storedPairs (a .a .now) (a .b .now) (a .sync .now) (x ++ (a .ends ∷ []))) (found-more (a .pass .step) (a .ends) (a .sync .now) (l .f) (c .before .before .before .before .before .before .before .before .before .loop-test .taken))) (l .inv) in
+    omega (arith, pair-room (a .a .now) (a .b .now) (a .sync .now) (l .f .place) (leftOf (a .pass .step) (a .ends) (a .sync .now) (l .f .walk) ++ (a .ends ∷ [])) ps u (c .before .before .before .before .before .before .before .before .before .before .before .before .before .before .before .before .before .pre .1), l .inv .len, c .before .before .before .before .before .before .before .before .before .before .before .before .before .before .before .before .before .good)
 
 loop-less : tie.Need-loop-less Inv-loop μ-loop
-loop-less c = omega (arith, at-most-less (c .before .before .before .before .before .before .before .before .loop .f) (c .next-place .result) (c .before .before .before .before .before .before .before .loop-test .taken) (c .next-place .ensures .1))
+loop-less c = omega (arith, at-most-less (c .before .before .before .before .before .before .before .before .before .before .loop .f) (c .next-place .result) (c .before .before .before .before .before .before .before .before .before .loop-test .taken) (c .next-place .ensures .1))
 
 loop-again : tie.Need-loop-again Inv-loop μ-loop
 unfolding pairAt railsOf
 loop-again c =
-    let a = c .before .before .before .before .before .before .before .before .before .before .before .before .before .before .before .args in
-    let l = c .before .before .before .before .before .before .before .before .loop in
+    let a = c .before .before .before .before .before .before .before .before .before .before .before .before .before .before .before .before .before .args in
+    let l = c .before .before .before .before .before .before .before .before .before .before .loop in
     let ps = walkPlaces (a .ends) (points (a .sync .now)) (a .pass) in
-    let u = front-at (ap (λ x. storedPairs (a .a .now) (a .b .now) (a .sync .now) (x ++ (a .ends ∷ []))) (found-more (a .pass .step) (a .ends) (a .sync .now) (l .f) (c .before .before .before .before .before .before .before .loop-test .taken))) (l .inv) in
-    let e = rw (c .before .before .before .before .before .before .pair-at .ensures) at (c .before .before .before .before .put-pair .ensures) in
-    rw (← c .next-place .ensures .0) (pair-put (a .a .now) (a .b .now) (a .sync .now) (l .f .place) (leftOf (a .pass .step) (a .ends) (a .sync .now) (l .f .walk) ++ (a .ends ∷ [])) ps u (c .before .before .before .before .before .before .before .before .before .before .before .before .before .before .before .pre .1) _ e)
+    let u = front-at (ap (λ x. storedPairs (a .a .now) (a .b .now) (a .sync .now) (x ++ (a .ends ∷ []))) (found-more (a .pass .step) (a .ends) (a .sync .now) (l .f) (c .before .before .before .before .before .before .before .before .before .loop-test .taken))) (l .inv) in
+    let e = rw (c .before .before .before .before .before .before .before .before .pair-at .ensures) at (c .before .before .before .before .put-pair .ensures) in
+    rw (← c .next-place .ensures .0) (pair-put (a .a .now) (a .b .now) (a .sync .now) (l .f .place) (leftOf (a .pass .step) (a .ends) (a .sync .now) (l .f .walk) ++ (a .ends ∷ [])) ps u (c .before .before .before .before .before .before .before .before .before .before .before .before .before .before .before .before .before .pre .1) _ e)
 
 put-pair-requires-2 : tie.Need-put-pair-requires-2 Inv-loop μ-loop
 put-pair-requires-2 c κs =
-    let a = c .before .before .before .before .before .before .before .before .before .before .args in
-    let l = c .before .before .before .loop in
+    let a = c .before .before .before .before .before .before .before .before .before .before .before .args in
+    let l = c .before .before .before .before .loop in
     let ps = walkPlaces (a .ends) (points (a .sync .now)) (a .pass) in
-    let u = front-at (ap (λ x. storedPairs (a .a .now) (a .b .now) (a .sync .now) (x ++ (a .ends ∷ []))) (found-none (a .pass .step) (a .ends) (a .sync .now) (l .f) (c .before .before .loop-test .left))) (l .inv) in
-    pair-room (a .a .now) (a .b .now) (a .sync .now) (a .ends) [] ps u (c .before .before .before .before .before .before .before .before .before .before .pre .1)
+    let u = front-at (ap (λ x. storedPairs (a .a .now) (a .b .now) (a .sync .now) (x ++ (a .ends ∷ []))) (found-none (a .pass .step) (a .ends) (a .sync .now) (l .f) (c .before .before .before .loop-test .left))) (l .inv) in
+    pair-room (a .a .now) (a .b .now) (a .sync .now) (a .ends) [] ps u (c .before .before .before .before .before .before .before .before .before .before .before .pre .1)
 
 same-length : tie.Need-same-length Inv-loop μ-loop
 unfolding pairAt railsOf
 same-length c =
-    let a = c .before .before .before .before .before .before .before .before .before .before .before .before .before .args in
-    let l = c .before .before .before .before .before .before .loop in
+    let a = c .before .before .before .before .before .before .before .before .before .before .before .before .before .before .args in
+    let l = c .before .before .before .before .before .before .before .loop in
     let ps = walkPlaces (a .ends) (points (a .sync .now)) (a .pass) in
-    let u = front-at (ap (λ x. storedPairs (a .a .now) (a .b .now) (a .sync .now) (x ++ (a .ends ∷ []))) (found-none (a .pass .step) (a .ends) (a .sync .now) (l .f) (c .before .before .before .before .before .loop-test .left))) (l .inv) in
-    let e = rw (c .before .before .before .before .pair-at2 .ensures) at (c .before .before .put-pair2 .ensures) in
-    pair-put (a .a .now) (a .b .now) (a .sync .now) (a .ends) [] ps u (c .before .before .before .before .before .before .before .before .before .before .before .before .before .pre .1) _ e .len
+    let u = front-at (ap (λ x. storedPairs (a .a .now) (a .b .now) (a .sync .now) (x ++ (a .ends ∷ []))) (found-none (a .pass .step) (a .ends) (a .sync .now) (l .f) (c .before .before .before .before .before .before .loop-test .left))) (l .inv) in
+    let e = rw (c .before .before .before .before .before .pair-at2 .ensures) at (c .before .before .put-pair2 .ensures) in
+    pair-put (a .a .now) (a .b .now) (a .sync .now) (a .ends) [] ps u (c .before .before .before .before .before .before .before .before .before .before .before .before .before .before .pre .1) _ e .len
 
 returns : tie.Need-returns Inv-loop μ-loop
 unfolding pairAt railsOf
 returns c =
-    let a = c .before .before .before .before .before .before .before .before .before .before .before .before .before .args in
-    let l = c .before .before .before .before .before .before .loop in
+    let a = c .before .before .before .before .before .before .before .before .before .before .before .before .before .before .args in
+    let l = c .before .before .before .before .before .before .before .loop in
     let ps = walkPlaces (a .ends) (points (a .sync .now)) (a .pass) in
-    let u = front-at (ap (λ x. storedPairs (a .a .now) (a .b .now) (a .sync .now) (x ++ (a .ends ∷ []))) (found-none (a .pass .step) (a .ends) (a .sync .now) (l .f) (c .before .before .before .before .before .loop-test .left))) (l .inv) in
-    let e = rw (c .before .before .before .before .pair-at2 .ensures) at (c .before .before .put-pair2 .ensures) in
+    let u = front-at (ap (λ x. storedPairs (a .a .now) (a .b .now) (a .sync .now) (x ++ (a .ends ∷ []))) (found-none (a .pass .step) (a .ends) (a .sync .now) (l .f) (c .before .before .before .before .before .before .loop-test .left))) (l .inv) in
+    let e = rw (c .before .before .before .before .before .pair-at2 .ensures) at (c .before .before .put-pair2 .ensures) in
     let ls = storedPairs (a .a .now) (a .b .now) (a .sync .now) ps in
-    let g = front-at (stored-none (a .a .now) (a .b .now) (a .sync .now)) (pair-put (a .a .now) (a .b .now) (a .sync .now) (a .ends) [] ps u (c .before .before .before .before .before .before .before .before .before .before .before .before .before .pre .1) _ e) in
+    let g = front-at (stored-none (a .a .now) (a .b .now) (a .sync .now)) (pair-put (a .a .now) (a .b .now) (a .sync .now) (a .ends) [] ps u (c .before .before .before .before .before .before .before .before .before .before .before .before .before .before .pre .1) _ e) in
     (g .len, rw (← stored-length (a .a .now) (a .b .now) (a .sync .now) ps) (ap (take (length ls)) (front-end g) ∙ take-at ls _ (length ls) refl))
 
 pub lay-pairs-spec : {M : Type 1} → statement M

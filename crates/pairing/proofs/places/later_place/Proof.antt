@@ -1,0 +1,48 @@
+-- `later_place` meets its contract: what is left of the walk stays the same from window to window. Assumes nothing.
+use mathlib.Core.Path.{_≡_, refl, sym, ap, _∙_}
+use native.Mathlib.Omega.{arith}
+use lib.ListN.{length}
+use borrow.Author.Tests.{not-true, not-false}
+use Rattle.pairing.specs.Walk.{leftOf, laterOf, foundOf}
+use Rattle.pairing.specs.WalkLaws.{walk-over, walk-ends}
+use borrow.Author.Needs.{needs}
+use Rattle.pairing.proofs.places.later_place.Statement.{statement}
+use Rattle.pairing.proofs.places.later_place.Tie as tie
+
+abbrev Inv-loop : tie.InvT-loop
+Inv-loop sync ends step k₀ k = (k .left ≡ k₀ .left) × (leftOf step ends sync k₀ ≡ leftOf step ends sync k)
+
+abbrev μ-loop : tie.MeasureT-loop
+μ-loop sync ends step k₀ k = length (laterOf ends sync k)
+
+loop-holds : tie.Need-loop-holds Inv-loop μ-loop
+loop-holds c = (refl, refl)
+
+returns : tie.Need-returns Inv-loop μ-loop
+unfolding foundOf
+returns c =
+    let a = c .before .before .before .before .before .args in
+    (c .before .before .before .loop .inv .1 ∙ walk-ends (a .step) (a .ends) (a .sync .now) (c .before .before .before .loop .k) (sym (c .before .before .goes .ensures) ∙ not-true _ (c .before .if1 .taken)) (c .if2 .taken), refl)
+
+next-window-requires : tie.Need-next-window-requires Inv-loop μ-loop
+next-window-requires c κs = c .if2 .left
+
+loop-less : tie.Need-loop-less Inv-loop μ-loop
+loop-less c = omega (arith, c .next-window .ensures .1)
+
+loop-again : tie.Need-loop-again Inv-loop μ-loop
+loop-again c =
+    let a = c .before .before .before .before .before .before .args in
+    (c .next-window .ensures .0 ∙ c .before .before .before .before .loop .inv .0, c .before .before .before .before .loop .inv .1 ∙ walk-over (a .step) (a .ends) (a .sync .now) (c .before .before .before .before .loop .k) (sym (c .before .before .before .goes .ensures) ∙ not-true _ (c .before .before .if1 .taken)) ∙ c .next-window .ensures .2 (a .step))
+
+place-of-requires : tie.Need-place-of-requires Inv-loop μ-loop
+place-of-requires c κs = sym (c .before .goes .ensures) ∙ not-false _ (c .if1 .left)
+
+returns-2 : tie.Need-returns-2 Inv-loop μ-loop
+returns-2 c =
+    let a = c .before .before .before .before .before .args in
+    (c .before .before .before .loop .inv .1 ∙ c .place-of .ensures .0 (a .ends) (a .sync .now), rw (← c .before .before .before .loop .inv .0) (c .place-of .ensures .1))
+
+pub later-place-spec : {M : Type 1} → statement M
+later-place-spec =
+    tie.close (tie.spec Inv-loop μ-loop loop-holds (λ c κs. search needs) returns next-window-requires loop-less loop-again place-of-requires returns-2)
