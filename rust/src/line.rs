@@ -1,17 +1,12 @@
 //! Running stitch.
 
 use crate::raw::beahcerot_running;
-use crate::room::{Room, sewn};
-use crate::{P, Polyline, Refusal, flat};
+use crate::room::sewn_along;
+use crate::{P, Polyline, Refusal};
 
 /// Running stitch along `line`, `passes` times back and forth (odd = ends at the far end).
 pub fn running(line: &[P], closed: bool, len: f64, passes: u32) -> Result<Polyline, Refusal> {
-    let line = flat(line);
-    let room = Room {
-        work: 0,
-        out: 4 * line.len(),
-    };
-    sewn(room, |_, out, count| unsafe {
+    sewn_along(line, |line, out, count| unsafe {
         beahcerot_running(
             line.as_ptr(),
             line.len(),

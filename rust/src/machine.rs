@@ -7,11 +7,7 @@ use crate::{P, Refusal, flat};
 /// The DST records of these points, from (0, 0) on, with the end record; without the label block.
 pub fn dst(points: &[P]) -> Result<Vec<u8>, Refusal> {
     let points = flat(points);
-    let room = Room {
-        work: 0,
-        out: 3 * (points.len() / 2 + 1),
-    };
-    lend(room, |room| {
+    lend(Room::output(3 * (points.len() / 2 + 1)), |room| {
         let mut out = vec![0; room.out];
         let mut count = 0;
         let answer = unsafe {

@@ -35,11 +35,7 @@ pub fn clip_inside(
 ) -> Result<Vec<Polyline>, Refusal> {
     let line = flat(pts);
     let (corners, ends) = outline(rings);
-    let room = Room {
-        work: 0,
-        out: line.len(),
-    };
-    lend(room, |room| {
+    lend(Room::output(line.len()), |room| {
         let (mut out, mut stops) = (vec![0.0; room.out], vec![0; room.out]);
         let (mut runs, mut count) = (0, 0);
         let answer = unsafe {
@@ -70,7 +66,7 @@ pub fn cross_stitch(
     cell: f64,
 ) -> Result<Vec<Polyline>, Refusal> {
     let (corners, ends) = outline(rings);
-    lend(Room { work: 0, out: 4096 }, |room| {
+    lend(Room::output(4096), |room| {
         let (mut out, mut stops) = (vec![0.0; room.out], vec![0; room.out / 8]);
         let (mut rows, mut count) = (0, 0);
         let answer = unsafe {

@@ -2,7 +2,7 @@
 //! what it was lent is too short, and touches no output then, so that asking
 //! again with more is all there is to do.
 
-use crate::{Polyline, Refusal, points};
+use crate::{P, Polyline, Refusal, flat, points};
 
 const DONE: u64 = 0;
 const WORK: u64 = 6;
@@ -13,6 +13,13 @@ const ROOM: u64 = 7;
 pub struct Room {
     pub work: usize,
     pub out: usize,
+}
+
+impl Room {
+    /// For a call that has no working slice.
+    pub fn output(out: usize) -> Room {
+        Room { work: 0, out }
+    }
 }
 
 /// Calls until neither WORK nor ROOM is said.
@@ -37,5 +44,16 @@ pub fn sewn(
         let mut count = 0;
         let answer = call(&mut work, &mut out, &mut count);
         (answer, points(&out[..2 * count as usize]))
+    })
+}
+
+/// The same of a call along a line that has no working slice.
+pub fn sewn_along(
+    pts: &[P],
+    mut call: impl FnMut(&[f64], &mut [f64], &mut u64) -> u64,
+) -> Result<Polyline, Refusal> {
+    let line = flat(pts);
+    sewn(Room::output(4 * line.len()), |_, out, count| {
+        call(&line, out, count)
     })
 }

@@ -1,7 +1,7 @@
 //! Satin columns between two rails.
 
 use crate::raw::{beahcerot_column, beahcerot_pairs, beahcerot_s_stitch, beahcerot_split_long};
-use crate::room::{Room, sewn};
+use crate::room::{Room, sewn, sewn_along};
 use crate::{P, Polyline, Refusal, flat};
 
 /// Two rails, and the places where they are kept in step. zigzag's `closed` is read by none of these calls.
@@ -134,12 +134,7 @@ pub fn column(r: &Rails, p: &SatinParams) -> Result<Polyline, Refusal> {
 
 /// A path with its long stitches split, the splits of neighbours staggered.
 pub fn split_long(pts: &[P], max: f64) -> Result<Polyline, Refusal> {
-    let line = flat(pts);
-    let room = Room {
-        work: 0,
-        out: 4 * line.len(),
-    };
-    sewn(room, |_, out, count| unsafe {
+    sewn_along(pts, |line, out, count| unsafe {
         beahcerot_split_long(
             line.as_ptr(),
             line.len(),
@@ -153,12 +148,7 @@ pub fn split_long(pts: &[P], max: f64) -> Result<Polyline, Refusal> {
 
 /// A path with its stitches bent to an s.
 pub fn s_stitch(pts: &[P]) -> Result<Polyline, Refusal> {
-    let line = flat(pts);
-    let room = Room {
-        work: 0,
-        out: 4 * line.len(),
-    };
-    sewn(room, |_, out, count| unsafe {
+    sewn_along(pts, |line, out, count| unsafe {
         beahcerot_s_stitch(
             line.as_ptr(),
             line.len(),

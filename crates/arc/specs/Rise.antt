@@ -1,38 +1,26 @@
 -- Running lengths rise, for a rail of accepted numbers. Assumes nothing.
-use Prim.Native.Nat.{ℕ, zero, suc, _*_, _/_, _%_, _≤_, _<_}
+use Prim.Native.Nat.{ℕ, zero, suc, _%_, _≤_, _<_}
 use native.Mathlib.Omega.{arith}
-use mathlib.Core.Path.{_≡_, refl}
-use mathlib.Core.Bool.{Bool, true, false}
+use mathlib.Core.Path.{_≡_}
+use mathlib.Core.Bool.{true}
 use mathlib.Core.List.{List, [], _∷_}
 use lib.Dec.{T, lit≤}
-use lib.IntN.{pos}
 use lib.ListN.{length, getD}
-use lib.Ieee.{Float, nan, inf, fin, binary64, add, le, fits}
-use Rattle.numbers.specs.Num.{_⊕_, _⊖_, _⊗_, real, zero64}
+use lib.Ieee.{Float, nan, binary64, le, fits}
+use Rattle.numbers.specs.Num.{_⊕_, _⊖_, _⊗_, zero64}
 use Rattle.numbers.specs.Value.{Within}
-use Rattle.numbers.specs.Order.{finite, magnitude}
-use Rattle.numbers.specs.Laws.{le-trans, add-up, add-fits, sum-up, square-up, root-up, holds, within-sub, within-le, within-real, within-finite}
+use Rattle.numbers.specs.Laws.{le-trans, add-fits, sum-up, square-up, root-up, holds, within-sub, within-finite, over-up}
 use Rattle.seqs.specs.Lists.{All}
 use Rattle.seqs.specs.Tests.{is-true, and-both}
 use Rattle.geom.specs.declared.point.P.{P}
 use Rattle.geom.specs.Point.{len, dist}
 use Rattle.geom.specs.Outline.{points}
 use Rattle.geom.specs.OutlineLaws.{points-length}
-use Rattle.limits.specs.Limits.{largest, goodNumber, goodNumbers}
+use Rattle.limits.specs.Limits.{goodNumber, goodNumbers}
+use Rattle.limits.specs.LimitsLaws.{good-within}
 use Rattle.satinrules.specs.Arc.{lengthsFrom, lengths}
 use Rattle.arc.specs.Rail.{Rising, Railed}
 use Rattle.arc.specs.RailLaws.{lengths-count}
-
--- adding what is not below zero never goes down, past every number too
-add-rises : (s l : Float) → T (fits binary64 s) → T (le zero64 s) → T (le zero64 l) → T (le s (s ⊕ l))
-unfolding le add finite
-add-rises nan l f p q = absurd p
-add-rises (inf true) l f p q = absurd p
-add-rises (inf false) nan f p q = absurd q
-add-rises (inf false) (inf true) f p q = absurd q
-add-rises (inf false) (inf false) f p q = tt
-add-rises (inf false) (fin t n d) f p q = tt
-add-rises (fin b m e) l f p q = add-up (fin b m e) l f tt q
 
 -- each at least the one before it
 Chain : Float → List Float → Type 0
@@ -57,10 +45,6 @@ chain-rising s l c = record { rises = λ i j t h k e. is-true _ (chained s l c i
 
 -- ---- corners of accepted numbers
 
-small : (x : Float) → goodNumber x ≡ true → Within 17 x
-unfolding goodNumber largest
-small x h = within-le 17 x (real (pos 100000)) (holds (and-both (finite x) (le (magnitude x) (real (pos 100000))) h .1)) (within-real 17 (pos 100000) (lit≤ tt) (lit≤ tt))
-
 Small : P → Type 0
 Small p = Within 17 (p .x) × Within 17 (p .y)
 
@@ -71,7 +55,7 @@ all-small (x ∷ []) h = tt
 all-small (x ∷ y ∷ l) h =
     let a = and-both (goodNumber x) (goodNumbers (y ∷ l)) h in
     let b = and-both (goodNumber y) (goodNumbers l) (a .1) in
-    ((small x (a .0), small y (b .0)), all-small l (b .1))
+    ((good-within x (a .0), good-within y (b .0)), all-small l (b .1))
 
 apart-up : (x y : Float) → Within 17 x → Within 17 y → T (le zero64 ((x ⊖ y) ⊗ (x ⊖ y)))
 apart-up x y h k = square-up (x ⊖ y) (within-finite 18 (x ⊖ y) (within-sub 17 x y (lit≤ tt) h k))
@@ -87,7 +71,7 @@ later-chain : (s : Float) (p : P) (ps : List P) → T (fits binary64 s) → T (l
 unfolding Chain lengthsFrom
 later-chain s p [] f z h hs = tt
 later-chain s p (q ∷ ps) f z h hs =
-    let g = add-rises s (dist p q) f z (dist-up p q h (hs .0)) in
+    let g = over-up s (dist p q) f z (dist-up p q h (hs .0)) in
     (g, later-chain (s ⊕ dist p q) q ps (add-fits binary64 s (dist p q)) (le-trans zero64 s (s ⊕ dist p q) z g) (hs .0) (hs .1))
 
 lengths-rise : (ps : List P) → 1 ≤ length ps → All Small ps → Rising (lengths ps)

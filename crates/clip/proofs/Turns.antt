@@ -15,8 +15,8 @@ use Rattle.geom.specs.OutlineLaws.{cornerAt}
 use Rattle.geom.specs.Sewing.{flat}
 use Rattle.geom.specs.SewingLaws.{flat-length, flat-append}
 use Rattle.rules.specs.Calls.{sewnPoints, sewnEnds}
+use Rattle.rules.specs.CallLaws.{ends-length}
 use Rattle.patterns_rules.specs.Answers.{countOf}
-use Rattle.patterns_rules.specs.LineLaws.{ends-length}
 use Rattle.patterns_rules.specs.Patterns.{pieceInside}
 use Rattle.clip.specs.Clip.{added, ended, pointsFrom, endsFrom}
 use Rattle.clip.specs.ClipLaws.{points-step, ends-step, ends-stop}

@@ -4,7 +4,7 @@ use native.Mathlib.Omega.{arith}
 use mathlib.Core.Path.{_≡_, refl, sym, ap, _∙_}
 use mathlib.Core.Bool.{Bool, true, false, cond}
 use mathlib.Core.Logic.{inl, inr}
-use mathlib.Core.List.{List, [], _∷_, _++_, append-assoc, append-nil}
+use mathlib.Core.List.{List, [], _∷_, _++_, append-assoc}
 use lib.Dec.{ltb}
 use lib.ListN.{length, drop, length-append, length-drop}
 use lib.Ieee.{Float}
@@ -15,8 +15,8 @@ use Rattle.outlines.specs.declared.rule.FillRule.{FillRule}
 use Rattle.geom.specs.Outline.{points, rings}
 use Rattle.geom.specs.OutlineLaws.{cornerAt, points-length, points-next, points-end}
 use Rattle.rules.specs.Calls.{sewnPoints, sewnEnds}
+use Rattle.rules.specs.CallLaws.{ends-length}
 use Rattle.patterns_rules.specs.Patterns.{pieceInside, closed, opened, runsFrom, clipInside}
-use Rattle.patterns_rules.specs.LineLaws.{ends-length}
 use Rattle.clip.specs.Clip.{clipped, added, ended, pointsFrom, endsFrom}
 
 -- the run so far: two points or more where one is on, and none where none is

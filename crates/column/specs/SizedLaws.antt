@@ -1,5 +1,5 @@
 -- What is proved of the passes that are sewn: SIZE and N by them, that each fits, and which answer it is. Assumes nothing.
-use Prim.Native.Nat.{ℕ, _+_, _*_, _≤_, _<_}
+use Prim.Native.Nat.{ℕ, _*_, _≤_, _<_}
 use native.Mathlib.Omega.{arith}
 use mathlib.Core.Path.{_≡_, refl, sym, ap, _∙_}
 use mathlib.Core.Bool.{Bool, true, false, _&&_, cond}
@@ -9,7 +9,7 @@ use lib.Dec.{leb}
 use lib.ListN.{length}
 use lib.Ieee.{Float}
 use borrow.Author.Tests.{le-leb, lt-leb, leb-true, leb-false}
-use Rattle.refusal.specs.Refusal.{SIZE, WORK, _then_}
+use Rattle.refusal.specs.Refusal.{SIZE, WORK}
 use Rattle.seqs.specs.Tests.{and-both, either, clash}
 use Rattle.geom.specs.declared.point.P.{P}
 use Rattle.geom.specs.Outline.{points}

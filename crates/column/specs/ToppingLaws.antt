@@ -18,8 +18,8 @@ use Rattle.satinrules.specs.declared.Satin.{Satin}
 use Rattle.satinrules.specs.Pairs.{Rails, pairs}
 use Rattle.satinrules.specs.Column.{afterZigzag, spacingOf, stitches, styled, top}
 use Rattle.pairing.specs.StoreLaws.{put-back}
-use Rattle.satin.specs.UnderlayLaws.{turned-length}
 use Rattle.column.specs.Topping.{topOf}
+use Rattle.passes.specs.ThreadsLaws.{turned-length}
 
 pub top-is : (r : Rails) (g : Satin) → top r g ≡ topOf g (stitches g (pairs r (spacingOf g)))
 unfolding top topOf

@@ -8,11 +8,11 @@ ghost use Rattle.satinrules.specs.Column.{onlyIf};
 ghost use Rattle.satinrules.specs.Calls.{passSteps, most};
 ghost use Rattle.column.specs.Sized.{sizedAt, placesIf, passesOf, mostIn};
 use geom::P;
+use limits::MOST_PAIRS;
 use pairing::places::Pass;
 use pairing::places::count_places;
 use pairing::places::pass_of;
 use passes::top::spaced;
-use satin::matched::MOST_PAIRS;
 use satin::underlay::runs;
 use satinrules::Satin;
 

@@ -13,12 +13,13 @@ use Rattle.outlines.specs.declared.rule.FillRule.{FillRule}
 use Rattle.geom.specs.Sewing.{flat}
 use Rattle.geom.specs.SewingLaws.{flat-length, flat-append, points-room, points-put}
 use Rattle.rules.specs.Calls.{sewnPoints, sewnEnds}
+use Rattle.rules.specs.CallLaws.{ends-length}
 use Rattle.patterns_rules.specs.declared.Grid.{Grid}
 use Rattle.patterns_rules.specs.declared.Run.{Run}
 use Rattle.patterns_rules.specs.declared.Count.{Count}
 use Rattle.patterns_rules.specs.Answers.{countOf}
 use Rattle.patterns_rules.specs.Patterns.{cellInside, outAndBack, rowLines, yAt}
-use Rattle.patterns_rules.specs.LineLaws.{ends-length, points-append, ends-append}
+use Rattle.patterns_rules.specs.LineLaws.{points-append, ends-append}
 use Rattle.cross.specs.Cells.{Next, linesIn}
 use Rattle.cross.specs.RowLaws.{row-length, lines-next, rowsIn, rows-next}
 
@@ -32,9 +33,6 @@ module _ {d₀ d : List Float} (k t : ℕ) (whole m rest : List P) (two : length
 
   pub stitch-put : (y : List Float) → y ≡ put d (k + 4 * t) (flat m) → Front d₀ y (k + 4 * (t + 1)) (flat rest) (take k d₀ ++ flat whole)
   stitch-put y e = let n : k + 4 * t + 2 * length m ≡ k + 4 * (t + 1) = omega (arith, two) in rw n at (points-put m rest f room y e)
-
-pub positive : (n : ℕ) → (n ≡ 0 → ⊥) → 0 < n
-positive n h = omega (arith, h)
 
 -- a run is next
 module _ (rings : List (List P)) (rule : FillRule) (g : Grid) (y : Float) {i : ℕ} {r : Run} (f : Next (cellInside rings rule g y) (g .columns) i r) (some : 0 < r .many) (at : ℕ) where

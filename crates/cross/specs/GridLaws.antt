@@ -1,10 +1,9 @@
 -- Counts of cells that cannot wrap, and that columns and rows have numbers. Assumes nothing.
 use Prim.Native.Nat.{ℕ, _+_, _^_, _≤_, _<_}
 use native.Mathlib.Omega.{arith}
-use mathlib.Core.Path.{_≡_, refl, sym, ap, _∙_}
-use mathlib.Core.Bool.{Bool, true, false, cond, _&&_}
+use mathlib.Core.Path.{_≡_, refl, sym, _∙_}
+use mathlib.Core.Bool.{Bool, true, false, cond, and-false}
 use mathlib.Core.Logic.{inl, inr}
-use mathlib.Core.List.{List}
 use lib.Dec.{leb}
 use lib.IntN.{ℤ, pos, negsuc, natAbs, _+ℤ_, _-ℤ_}
 use lib.Signed.{leZ, ltZ}
@@ -12,25 +11,20 @@ use lib.Ieee.{Float, toSigned}
 use lib.Ieee.Casts.{toSigned-in}
 use borrow.Author.Tests.{le-leb, lt-leb}
 use mir.Syntax.{w64}
-use mir.Val.{SFits, toZ, ofZ}
-use mir.ValLaws.{toZ-ofZ}
+use mir.Val.{SFits}
 use Rattle.numbers.specs.Num.{_⊘_}
 use Rattle.numbers.specs.Order.{finite}
 use Rattle.numbers.specs.Whole.{floor, ceil}
 use Rattle.seqs.specs.Slices.{capped}
 use Rattle.seqs.specs.Tests.{either}
 use Rattle.seqs.specs.Capped.{capped-in, capped-over, capped-exact, capped-past}
-use Rattle.seqs.specs.Ints.{above, below, gap, le-makes, lt-says, lt-denies, fits-says, add-parts, fits-between}
+use Rattle.seqs.specs.Ints.{gap, le-makes, lt-says, lt-denies, fits-says, add-parts, fits-between}
 use Rattle.limits.specs.Limits.{mostCells}
 use Rattle.patterns_rules.specs.declared.Bounds.{Bounds}
 use Rattle.patterns_rules.specs.declared.Grid.{Grid}
 use Rattle.patterns_rules.specs.Patterns.{upTo, firstCell, pastCell, gridIn}
 use Rattle.patterns_rules.specs.Answers.{goodGrid}
 use Rattle.cross.specs.Cells.{stopped, Laid}
-
-and-no : (b : Bool) → (b && false) ≡ false
-and-no true = refl
-and-no false = refl
 
 -- ---- counts
 
@@ -74,10 +68,6 @@ many-none lo hi h = rw h (sym (capped-in mostCells 0 (omega arith)))
 
 -- ---- numbers
 
--- what a cast gives is read back as it is
-pub cast-back : (x : Float) {k : ℤ} → k ≡ toSigned 63 x → toZ w64 (ofZ w64 k) ≡ k
-cast-back x {k} e = toZ-ofZ w64 k (record { sfits = rw e (toSigned-in 63 x) })
-
 up-fits : (lo hi : ℤ) (i : ℕ) → i < upTo lo hi → SFits w64 lo → SFits w64 hi → SFits w64 (lo +ℤ pos i)
 unfolding upTo
 up-fits lo hi i h f g = elim (either (ltZ lo hi)) [
@@ -116,7 +106,7 @@ module _ (g : Grid) where
 
   pub tall : mostCells < stopped g .rows → goodGrid g ≡ false
   unfolding goodGrid
-  tall h = rw (lt-leb (g .rows) mostCells (capped-past mostCells (g .rows) refl h)) (and-no (leb (g .columns) mostCells))
+  tall h = rw (lt-leb (g .rows) mostCells (capped-past mostCells (g .rows) refl h)) (and-false (leb (g .columns) mostCells))
 
   pub small : g .columns ≤ mostCells → g .rows ≤ mostCells → goodGrid g ≡ true
   unfolding goodGrid

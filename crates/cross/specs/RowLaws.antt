@@ -1,26 +1,22 @@
 -- Rows of stitches: their counts, and the turns of the loops that count and write them. Assumes nothing.
-use Prim.Native.Nat.{ℕ, zero, suc, _+_, _-_, _*_, _≤_, _<_}
+use Prim.Native.Nat.{ℕ, _+_, _-_, _*_, _≤_, _<_}
 use native.Mathlib.Omega.{arith}
-use mathlib.Core.Path.{_≡_, refl, sym, ap, _∙_}
-use mathlib.Core.Bool.{Bool, true, false}
+use mathlib.Core.Path.{_≡_, refl, ap, _∙_}
 use mathlib.Core.List.{List, [], _∷_, _++_, map, reverse}
-use lib.ListN.{length, drop, getD, length-append, length-reverse, length-map}
+use lib.ListN.{length, drop, getD, length-append, length-reverse}
 use lib.Ieee.{Float}
-use Rattle.seqs.specs.Lists.{upto, sift, each}
-use Rattle.seqs.specs.Each.{each-length, each-append}
+use Rattle.seqs.specs.Lists.{upto, each}
+use Rattle.seqs.specs.Each.{each-length}
 use Rattle.seqs.specs.Upto.{upto-length, upto-at, upto-next, upto-none}
 use Rattle.seqs.specs.Front.{next, none}
 use Rattle.seqs.specs.Reverse.{getD-reverse}
 use Rattle.geom.specs.declared.point.P.{P}
 use Rattle.outlines.specs.declared.rule.FillRule.{FillRule}
-use Rattle.geom.specs.Sewing.{flat}
-use Rattle.geom.specs.SewingLaws.{flat-length, flat-append}
-use Rattle.rules.specs.Calls.{sewnPoints, sewnEnds}
+use Rattle.rules.specs.Calls.{sewnPoints}
 use Rattle.patterns_rules.specs.declared.Grid.{Grid}
 use Rattle.patterns_rules.specs.declared.Run.{Run}
-use Rattle.patterns_rules.specs.LineLaws.{points-append, ends-append}
-use Rattle.patterns_rules.specs.Patterns.{runs, yAt, cellInside, outOver, backOver, outAndBack, rowRuns, rowLines, stitched}
-use Rattle.cross.specs.Cells.{runsIn, Next, linesIn}
+use Rattle.patterns_rules.specs.Patterns.{yAt, cellInside, outOver, backOver, outAndBack, rowRuns, rowLines, stitched}
+use Rattle.cross.specs.Cells.{Next, linesIn}
 use Rattle.cross.specs.RunLaws.{runs-none}
 
 -- ---- one run

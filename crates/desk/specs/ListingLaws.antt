@@ -1,8 +1,8 @@
 -- What a job leaves can be listed: each section ends where the next starts, and within the points. Assumes nothing.
-use mathlib.Core.Path.{_≡_, refl, sym, ap, subst}
+use mathlib.Core.Path.{_≡_, sym, subst}
 use mathlib.Core.Bool.{Bool, true, false, cond}
 use mathlib.Core.List.{List, [], _∷_, _++_}
-use Prim.Native.Nat.{ℕ, suc, _+_, _*_, _≤_, zero-le}
+use Prim.Native.Nat.{ℕ, _+_, _*_, _≤_, zero-le}
 use native.Mathlib.Omega.{arith}
 use lib.Dec.{eqb}
 use lib.ListN.{length, take, drop, length-append}
@@ -14,6 +14,7 @@ use Rattle.geom.specs.declared.point.P.{P}
 use Rattle.geom.specs.Sewing.{flat}
 use Rattle.geom.specs.SewingLaws.{flat-length}
 use Rattle.rules.specs.Calls.{worked, sewnPoints, sewnEnds}
+use Rattle.rules.specs.CallLaws.{ends-length}
 use Rattle.jobs.specs.declared.job.Parsed.{Parsed}
 use Rattle.jobs.specs.declared.job.Parsed.the-variants.{Done, Refused}
 use Rattle.jobs.specs.Job.{parsed}
@@ -22,11 +23,6 @@ use Rattle.tatami.specs.declared.Filled.{Filled}
 use Rattle.tatami.specs.Left.{Left, left, leftBy, tatamiLeft}
 use Rattle.desk.specs.Desk.{leftOf, jobLeft}
 use Rattle.desk.specs.Listing.{listingOf, Told}
-
-ends-length : (n : ℕ) (ss : List (List P)) → length (sewnEnds n ss) ≡ length ss
-unfolding sewnEnds
-ends-length n [] = refl
-ends-length n (s ∷ ss) = ap suc (ends-length (n + length s) ss)
 
 -- the ends of sections don't fall, and are places of their points
 ends-climb : (l : List Float) (n : ℕ) (ss : List (List P)) → 2 * (n + length (sewnPoints ss)) ≤ length l → Ends l n (sewnEnds n ss)

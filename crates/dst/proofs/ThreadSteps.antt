@@ -10,7 +10,7 @@ use Rattle.seqs.specs.Tests.{and-both}
 use Rattle.geom.specs.Outline.{points}
 use Rattle.geom.specs.OutlineLaws.{cornerAt, points-next, points-end}
 use Rattle.limits.specs.Limits.{goodNumber, goodNumbers}
-use Rattle.dst.specs.Rounding.{rounded}
+use Rattle.numbers.specs.Rounding.{rounded}
 use Rattle.dst.specs.Records.{endRecord}
 use Rattle.dst.specs.Thread.{Whole, roundedPoint, move, parts, way, thread, recordsFrom}
 use Rattle.dst.specs.Lifted.{lowered, wholeAt}

@@ -1,24 +1,19 @@
 -- The answer of `dst`, its checks in document 01's order. Definitions only.
 use Prim.Native.Nat.{ℕ, _%_}
-use mathlib.Core.Bool.{cond}
 use mathlib.Core.List.{List}
 use lib.Dec.{eqb, leb}
 use lib.ListN.{length}
 use lib.Ieee.{Float}
-use Rattle.refusal.specs.Refusal.{DONE, LAYOUT, NUMBER, ROOM, unless, _then_}
-use Rattle.refusal.specs.Sewn.{output}
+use Rattle.refusal.specs.Refusal.{LAYOUT, NUMBER, ROOM, unless, _then_}
+use Rattle.refusal.specs.Sewn.{written, output}
 use Rattle.limits.specs.Limits.{goodNumbers}
 use Rattle.geom.specs.Outline.{points}
-use Rattle.dst.specs.declared.Written.{Written}
+use Rattle.refusal.specs.declared.Written.{Written}
 use Rattle.dst.specs.Thread.{dstBytes}
 
 -- `room` is the length of the output slice
 unfoldable pub dstRefusal : List Float → ℕ → ℕ
 dstRefusal l room = unless LAYOUT (eqb (length l % 2) 0) then unless NUMBER (goodNumbers l) then unless ROOM (leb (length (dstBytes (points l))) room)
-
--- how many bytes were written: a refusal writes none
-abbrev pub written : ℕ → ℕ → Written
-written n bytes = cond (eqb n DONE) (record { answer = DONE; bytes = bytes }) (record { answer = n; bytes = 0 })
 
 unfoldable pub dstWritten : List Float → ℕ → Written
 dstWritten l room = written (dstRefusal l room) (length (dstBytes (points l)))

@@ -10,7 +10,7 @@ use Rattle.numbers.specs.Order.{negative}
 use Rattle.numbers.specs.Value.{unitsOf}
 use Rattle.geom.specs.Point.{point}
 use Rattle.dst.specs.declared.records.Kind.the-variants.{Stitch, Jump}
-use Rattle.dst.specs.Rounding.{nearestWhole, rounded}
+use Rattle.numbers.specs.Rounding.{nearestWhole, rounded}
 use Rattle.dst.specs.Records.{plus, minus, lower, third, bytesOf, recordOf}
 use Rattle.dst.specs.Thread.{whole, origin, roundedPoint, parts, cutAt, cutsFrom, way, thread, recordsFrom, dstBytes}
 

@@ -1,5 +1,4 @@
--- What the contracts of `dst` cite (Rounding, Records, Thread, Answers; Lifted), and what is proved of it.
-pub mod Rounding
+-- What the contracts of `dst` cite (Records, Thread, Answers; Lifted), and what is proved of it.
 pub mod Records
 pub mod Thread
 pub mod Answers

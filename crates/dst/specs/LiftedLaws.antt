@@ -5,19 +5,11 @@ use native.Mathlib.Omega.{arith}
 use mathlib.Core.Path.{_≡_, refl}
 use mathlib.Core.Logic.{inl, inr}
 use lib.IntN.{pos, negℤ, natAbs, _+ℤ_, _-ℤ_}
-use Rattle.seqs.specs.Ints.{above, below, one-side, same-int, add-parts, sub-parts-is, abs-parts}
+use Rattle.seqs.specs.Ints.{above, below, one-side, same-int, add-parts, sub-parts-is, abs-parts, neg-above, neg-below}
 use Rattle.dst.specs.Records.{lift}
 use Rattle.dst.specs.RecordLaws.{lift-is}
 use Rattle.dst.specs.Thread.{origin, quotient, cutAt}
 use Rattle.dst.specs.Lifted.{lowered, wholeAt}
-
-neg-above : (n : ℕ) → above (negℤ (pos n)) ≡ 0
-neg-above zero = refl
-neg-above (suc n) = refl
-
-neg-below : (n : ℕ) → below (negℤ (pos n)) ≡ n
-neg-below zero = refl
-neg-below (suc n) = refl
 
 pub lowered-parts : (n : ℕ) → above (lowered n) + 100000 ≡ n + below (lowered n)
 unfolding lowered
@@ -27,7 +19,7 @@ pub lowered-up : (n : ℕ) → lowered (100000 + n) ≡ pos n
 lowered-up n = same-int (lowered (100000 + n)) (pos n) (omega (arith, lowered-parts (100000 + n)))
 
 pub lowered-down : (n : ℕ) → n ≤ 100000 → lowered (100000 - n) ≡ negℤ (pos n)
-lowered-down n h = same-int (lowered (100000 - n)) (negℤ (pos n)) (omega (arith, lowered-parts (100000 - n), neg-above n, neg-below n))
+lowered-down n h = same-int (lowered (100000 - n)) (negℤ (pos n)) (omega (arith, lowered-parts (100000 - n), neg-above (pos n), neg-below (pos n)))
 
 pub lifted-origin : wholeAt 100000 100000 ≡ origin
 unfolding lowered
@@ -41,11 +33,7 @@ module _ (a b : ℕ) where
   gap-up h = same-int (lowered b -ℤ lowered a) (pos (b - a)) (omega (arith, gap-parts))
 
   pub gap-down : b ≤ a → lowered b -ℤ lowered a ≡ negℤ (pos (a - b))
-  gap-down h = same-int (lowered b -ℤ lowered a) (negℤ (pos (a - b))) (omega (arith, gap-parts, neg-above (a - b), neg-below (a - b)))
-
-pub abs-down : (n : ℕ) → natAbs (negℤ (pos n)) ≡ n
-abs-down zero = refl
-abs-down (suc n) = refl
+  gap-down h = same-int (lowered b -ℤ lowered a) (negℤ (pos (a - b))) (omega (arith, gap-parts, neg-above (pos (a - b)), neg-below (pos (a - b))))
 
 -- ---- cuts
 
@@ -68,7 +56,7 @@ module _ (a b n i : ℕ) where
   unfolding cutAt
   cut-down h k =
       let q = i * (a - b) / n in
-      rw (gap-down a b h, quotient-down (a - b) i n) (same-int (lowered (a - q)) (lowered a +ℤ negℤ (pos q)) (omega (arith, lowered-parts (a - q), lowered-parts a, add-parts (lowered a) (negℤ (pos q)), neg-above q, neg-below q)))
+      rw (gap-down a b h, quotient-down (a - b) i n) (same-int (lowered (a - q)) (lowered a +ℤ negℤ (pos q)) (omega (arith, lowered-parts (a - q), lowered-parts a, add-parts (lowered a) (negℤ (pos q)), neg-above (pos q), neg-below (pos q))))
 
 -- ---- a move, lifted by 121
 

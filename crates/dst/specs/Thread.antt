@@ -7,7 +7,7 @@ use lib.IntN.{ℤ, pos, negsuc, negℤ, natAbs, _+ℤ_, _-ℤ_}
 use Rattle.geom.specs.declared.point.P.{P}
 use Rattle.dst.specs.declared.records.Kind.{Kind}
 use Rattle.dst.specs.declared.records.Kind.the-variants.{Stitch, Jump}
-use Rattle.dst.specs.Rounding.{rounded}
+use Rattle.numbers.specs.Rounding.{rounded}
 use Rattle.dst.specs.Records.{recordOf, endRecord}
 
 -- a place in whole units, or a move from one to another

@@ -6,13 +6,13 @@ use mathlib.Core.Path.{_≡_, refl, sym, ap, _∙_}
 use mathlib.Core.Logic.{_⊎_, inl, inr}
 use mathlib.Core.List.{List, [], _∷_, _++_, append-assoc}
 use lib.ListN.{length, length-append}
-use lib.IntN.{ℤ, pos, negsuc, negℤ, natAbs, _+ℤ_, _-ℤ_}
+use lib.IntN.{ℤ, pos, negsuc, natAbs, _+ℤ_, _-ℤ_}
 use lib.Ieee.Nearest.{div-mono}
 use Rattle.geom.specs.declared.point.P.{P}
-use Rattle.seqs.specs.Ints.{above, below, one-side, same-int, add-parts, sub-parts-is, abs-parts}
+use Rattle.seqs.specs.Ints.{above, below, one-side, same-int, add-parts, sub-parts-is, abs-parts, neg-above, neg-below}
 use Rattle.dst.specs.declared.records.Kind.{Kind}
 use Rattle.dst.specs.Records.{bytesOf, recordOf, endRecord}
-use Rattle.dst.specs.Thread.{Whole, Mark, origin, roundedPoint, move, fewest, parts, quotient, cutAt, cut, kindAt, cutsFrom, way, thread, recordsFrom, endOf, dstBytes}
+use Rattle.dst.specs.Thread.{Whole, Mark, origin, roundedPoint, move, parts, quotient, cutAt, cut, kindAt, cutsFrom, way, thread, recordsFrom, endOf, dstBytes}
 
 -- ---- parts
 
@@ -34,19 +34,11 @@ parts-fewest d n some x y = omega arith
 
 quotient-above : (d : ℤ) (i n : ℕ) → above (quotient d i n) ≡ i * above d / n
 quotient-above (pos m) i n = refl
-quotient-above (negsuc m) i n = go (i * suc m / n) ∙ sym (rw (mul-zero i) (zero-div n))
-  where
-    go : (q : ℕ) → above (negℤ (pos q)) ≡ 0
-    go zero = refl
-    go (suc q) = refl
+quotient-above (negsuc m) i n = neg-above (pos (i * suc m / n)) ∙ sym (rw (mul-zero i) (zero-div n))
 
 quotient-below : (d : ℤ) (i n : ℕ) → below (quotient d i n) ≡ i * below d / n
 quotient-below (pos m) i n = sym (rw (mul-zero i) (zero-div n))
-quotient-below (negsuc m) i n = go (i * suc m / n)
-  where
-    go : (q : ℕ) → below (negℤ (pos q)) ≡ q
-    go zero = refl
-    go (suc q) = refl
+quotient-below (negsuc m) i n = neg-below (pos (i * suc m / n))
 
 -- the next part of m cut by n is at most 121
 part-small : (m i n : ℕ) → 0 < n → m ≤ 121 * n → (i * m / n ≤ (i + 1) * m / n) × ((i + 1) * m / n ≤ i * m / n + 121)

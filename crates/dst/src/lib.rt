@@ -13,12 +13,7 @@ use refusal::DONE;
 use refusal::LAYOUT;
 use refusal::NUMBER;
 use refusal::ROOM;
-
-// What a call that writes bytes says: a number of document 01's table, and how many bytes stand at the front of its output, none after a refusal.
-pub struct Written {
-    pub answer: u64,
-    pub bytes: u64,
-}
+use refusal::Written;
 
 // The first check that applies answers, and a refusal writes nothing.
 pub fn dst(points: &[f64], out: &mut [u8]) -> Written

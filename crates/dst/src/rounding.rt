@@ -3,22 +3,12 @@ ghost use mathlib.Core.Path.{_≡_};
 ghost use mathlib.Core.Bool.{true};
 ghost use Prim.Native.Nat.{_≤_};
 ghost use Rattle.limits.specs.Limits.{goodNumber};
-ghost use Rattle.dst.specs.Rounding.{rounded, nearestWhole};
+ghost use Rattle.numbers.specs.Rounding.{rounded};
 ghost use Rattle.dst.specs.Lifted.{lowered};
 use leaves::is_negative;
-use leaves::magnitude;
-use leaves::to_u64;
+use leaves::nearest;
 
 pub const LIFT: u64 = 100000;
-
-// Halves up, of the magnitude: twice it is exact, and is cut to a whole number.
-fn nearest(x: f64) -> u64
-    requires { ⌜ goodNumber x ≡ true ⌝ }
-    ensures { λ r. ⌜ (r ≡ nearestWhole x) × (r ≤ 100000) ⌝ }
-{
-    let v = magnitude(x);
-    (to_u64(v + v) + 1) / 2
-}
 
 // Halves away from zero.
 pub fn lifted(x: f64) -> u64

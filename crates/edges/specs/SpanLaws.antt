@@ -11,8 +11,7 @@ use lib.Signed.{leZ, ltZ}
 use lib.Ieee.{Float, toSigned}
 use lib.Ieee.Casts.{toSigned-in}
 use mir.Syntax.{w64}
-use mir.Val.{SFits, toZ, ofZ}
-use mir.ValLaws.{toZ-ofZ}
+use mir.Val.{SFits}
 use Rattle.numbers.specs.Num.{_⊖_, _⊘_, half}
 use Rattle.numbers.specs.Order.{smaller, larger}
 use Rattle.numbers.specs.Whole.{floor, ceil}
@@ -100,10 +99,6 @@ module _ (lo hi : ℤ) (h : leZ lo hi ≡ true) where
 pub many-none : (lo hi : ℤ) → leZ lo hi ≡ false → 0 ≡ capped 4096 (howMany lo hi)
 unfolding howMany
 many-none lo hi h = rw h (sym (capped-in 4096 0 (omega arith)))
-
--- what a cast gives is read back as it is
-pub cast-back : (x : Float) {k : ℤ} → k ≡ toSigned 63 x → toZ w64 (ofZ w64 k) ≡ k
-cast-back x {k} e = toZ-ofZ w64 k (record { sfits = rw e (toSigned-in 63 x) })
 
 -- what the calls on the way to the rows give, put together
 module _ (g : Settings) (es : List Edge) {x : Extent} (is : x ≡ fold widen nowhere es) {up down : Float} {lo hi : ℤ} (c : up ≡ ceil (x .top ⊘ g .spacing ⊖ half)) (f : down ≡ floor (x .bottom ⊘ g .spacing ⊖ half)) (l : lo ≡ toSigned 63 up) (h : hi ≡ toSigned 63 down) where

@@ -3,7 +3,6 @@ ghost use mathlib.Core.Path.{_≡_};
 ghost use mathlib.Core.Bool.{true};
 ghost use Prim.Native.Nat.{_^_, _<_};
 ghost use lib.IntN.{natAbs, _-ℤ_};
-ghost use lib.ListN.{length};
 ghost use lib.Signed.{leZ};
 ghost use Rattle.seqs.specs.Lists.{fold};
 ghost use Rattle.seqs.specs.Slices.{capped};

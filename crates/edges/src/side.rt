@@ -1,8 +1,6 @@
 // A ring's sides, one at a time: the ring is a part of the corner list, turned by (c, -s) as it is read.
 ghost use mathlib.Core.Path.{_≡_};
-ghost use mathlib.Core.Bool.{cond};
 ghost use Prim.Native.Nat.{_+_, _<_};
-ghost use lib.Dec.{ltb};
 ghost use lib.ListN.{length};
 ghost use Rattle.rules.specs.Fill.{edgeOf, keptSide};
 ghost use Rattle.edges.specs.Table.{corner, following, found};

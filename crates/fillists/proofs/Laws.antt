@@ -1,6 +1,6 @@
 -- Lists that begin with others, and the words of an answer part by part.
 use mathlib.Core.Path.{_≡_, refl, sym, ap, _∙_}
-use mathlib.Core.Bool.{Bool, true, false, _&&_, cond}
+use mathlib.Core.Bool.{Bool, true, false, _&&_, cond, and-false, and-assoc}
 use mathlib.Core.List.{List, [], _∷_, _++_}
 use Prim.Native.Nat.{ℕ, suc, _+_, _-_, _*_, _≤_, _<_}
 use native.Mathlib.Numerals.{add-one}
@@ -57,10 +57,6 @@ module _ (w : List ℕ) (i : ℕ) where
   same-end l h k = rw (drop-of-length-le l h, drop-of-length-le w k)
 
 -- ---- lists of two lengths
-and-false : (a : Bool) → (a && false) ≡ false
-and-false true = refl
-and-false false = refl
-
 pub same-other : (a b : List ℕ) → (length a ≡ length b → ⊥) → same a b ≡ false
 unfolding same
 same-other [] [] h = absurd (h refl)
@@ -75,15 +71,11 @@ starts-length (v ∷ vs) [] h = clash h refl
 starts-length (v ∷ vs) (w ∷ ws) h = omega (arith, starts-length vs ws (and-both (eqb w v) (starts vs ws) h .1))
 
 -- ---- lists in parts
-and-and : (a b c : Bool) → ((a && b) && c) ≡ (a && (b && c))
-and-and true b c = refl
-and-and false b c = refl
-
 same-append : (a b w : List ℕ) → same (a ++ b) w ≡ (starts a w && same b (drop (length a) w))
 unfolding same starts
 same-append [] b w = refl
 same-append (v ∷ vs) b [] = refl
-same-append (v ∷ vs) b (w ∷ ws) = ap (λ (t : Bool). eqb w v && t) (same-append vs b ws) ∙ sym (and-and (eqb w v) (starts vs ws) (same b (drop (length vs) ws)))
+same-append (v ∷ vs) b (w ∷ ws) = ap (λ (t : Bool). eqb w v && t) (same-append vs b ws) ∙ sym (and-assoc (eqb w v) (starts vs ws) (same b (drop (length vs) ws)))
 
 -- the part a of k words from place j, and then b
 pub same-parts : (a b w : List ℕ) (j k : ℕ) → length a ≡ k → same (a ++ b) (drop j w) ≡ (starts a (from j w) && same b (drop (j + k) w))

@@ -3,28 +3,23 @@ use Prim.Native.Nat.{ℕ, _*_, _/_, _≤_}
 use native.Mathlib.Nat.{le-trans, mul-le-mul-right}
 use native.Mathlib.Omega.{arith}
 use mathlib.Core.Path.{_≡_, refl, _∙_}
-use mathlib.Core.Bool.{Bool, true, false, not, cond}
+use mathlib.Core.Bool.{Bool}
 use mathlib.Core.List.{List}
 use lib.ListN.{length}
 use lib.Ieee.{Float}
 use borrow.Author.Tests.{le-ltb}
-use Rattle.refusal.specs.Refusal.{DONE, ROOM, unless}
+use Rattle.refusal.specs.Refusal.{ROOM, unless}
 use Rattle.geom.specs.Outline.{rings}
 use Rattle.outlines.specs.declared.rule.FillRule.{FillRule}
 use Rattle.rules.specs.declared.Settings.{Settings}
-use Rattle.rules.specs.Fill.{edges, rowNumbers, rowList, gate, needFloats, needWholes, roomed, refusal}
+use Rattle.rules.specs.Fill.{edges, rowNumbers, rowList, needFloats, needWholes, roomed, refusal}
 use Rattle.rules.specs.Accepted.{Accepted, laid-out}
-use Rattle.rules.specs.CallLaws.{gate-through}
+use Rattle.rules.specs.CallLaws.{gate-through, room-told}
 use Rattle.rules.specs.Counts.{edges-of-corners, pieces-half}
 use Rattle.fillroom.specs.Room.{roomFor, roomOf}
 
 half-le : (a b : ℕ) → a ≤ b → a / 2 ≤ b / 2
 half-le a b h = omega arith
-
--- ROOM, told two ways
-room-told : (fits : Bool) → cond (not fits) ROOM DONE ≡ unless ROOM fits
-room-told true = refl
-room-told false = refl
 
 module _ (corners : List Float) (ends : List ℕ) (g : Settings) (stagger : ℕ) (accepted : Accepted corners ends g stagger) where
   room-is : roomOf corners ends g stagger ≡ roomFor (length corners / 2) (length (rowNumbers g (edges g (rings corners ends))))

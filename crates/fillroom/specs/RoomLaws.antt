@@ -2,15 +2,14 @@
 use Prim.Native.Nat.{ℕ, _*_, _/_, _%_, _≤_}
 use native.Mathlib.Nat.{mul-le-mul}
 use native.Mathlib.Omega.{arith}
-use mathlib.Core.Path.{_≡_, refl, sym, ap, _∙_}
-use mathlib.Core.Bool.{Bool, true, _&&_}
+use mathlib.Core.Path.{_≡_, refl, ap, _∙_}
+use mathlib.Core.Bool.{_&&_}
 use mathlib.Core.List.{List}
 use lib.Dec.{leb, eqb}
 use lib.ListN.{length}
 use lib.Ieee.{Float}
 use borrow.Author.Tests.{leb-true, ne-eqb}
 use Rattle.refusal.specs.Refusal.{DONE}
-use Rattle.seqs.specs.Slices.{capped}
 use Rattle.seqs.specs.Tests.{and-both}
 use Rattle.seqs.specs.Capped.{capped-in}
 use Rattle.geom.specs.Outline.{rings, rising}

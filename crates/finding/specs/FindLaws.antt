@@ -2,11 +2,11 @@
 use Prim.Native.Nat.{ℕ, _+_, _*_, _/_, _%_, _≤_, _<_}
 use native.Mathlib.Omega.{arith}
 use mathlib.Core.Path.{_≡_, refl, sym, ap, _∙_, subst}
-use mathlib.Core.Bool.{Bool, true, false, _&&_, _||_, cond, or-true}
-use mathlib.Core.List.{List, _++_, map}
+use mathlib.Core.Bool.{true, _&&_, cond, or-true}
+use mathlib.Core.List.{List, _++_}
 use lib.Dec.{ltb, leb, eqb}
 use lib.ListN.{length, take, drop, length-map, length-drop}
-use lib.Seq.{length-take-le, take-at}
+use lib.Seq.{take-at}
 use lib.Ieee.{Float}
 use borrow.Author.Tests.{lt-ltb, leb-true}
 use Rattle.seqs.specs.Lists.{each, Strict}
@@ -17,8 +17,7 @@ use Rattle.geom.specs.Outline.{rings, rising}
 use Rattle.limits.specs.Limits.{goodOutline}
 use Rattle.limits.specs.LimitsLaws.{outline-layout}
 use Rattle.rules.specs.declared.Edge.{Edge}
-use Rattle.rules.specs.declared.Piece.{Piece}
-use Rattle.rules.specs.Fill.{edges, rowNumbers, rowList, needFloats, needWholes}
+use Rattle.rules.specs.Fill.{edges, rowList, needFloats, needWholes}
 use Rattle.rules.specs.PieceTable.{pieceBlock, rowCounts}
 use Rattle.rules.specs.Sections.{entries-pieces}
 use Rattle.rules.specs.Accepted.{laid-out, checked}
@@ -31,7 +30,6 @@ use Rattle.sweep.specs.declared.key.Key.the-variants.{Top, Bottom}
 use Rattle.sweep.specs.Swept.{by, numbers, sweptAll, Lent, Laid}
 use Rattle.sweep.specs.Exact.{sweep-exact, sweep-strict}
 use Rattle.sweep.specs.LaidLaws.{laid-count, counts-length, wrote-there}
-use Rattle.sections.specs.Mark.{Laid as Held}
 use Rattle.finding.specs.declared.Plan.{Plan}
 use Rattle.finding.specs.Stages.{Passed, alone, short, Holds}
 

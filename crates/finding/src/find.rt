@@ -1,5 +1,4 @@
 // The pieces of all rows, laid out behind the edges; or the finding that a working slice is too short.
-ghost use mathlib.Core.Path.{_≡_};
 ghost use Rattle.finding.specs.Stages.{Passed, FoundIn};
 use crate::Plan;
 use edges::build;

@@ -4,6 +4,7 @@ ghost use Rattle.rules.specs.Fill.{goodSettings};
 ghost use Rattle.finding.specs.Stages.{Gated};
 use edges::Rows;
 use edges::rows_of;
+use limits::MOST_ROWS;
 use limits::good_inset;
 use limits::good_len;
 use limits::good_numbers;
@@ -17,8 +18,6 @@ use refusal::SETTING;
 use refusal::SIZE;
 use refusal::TURN;
 use rules::Settings;
-
-pub const MOST_ROWS: usize = 4096;
 
 // One of 1 to 5, or the rows of an accepted fill.
 pub enum Way {

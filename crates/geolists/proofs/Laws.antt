@@ -1,16 +1,14 @@
 -- Words read one after the other, and short lists of them compared.
-use mathlib.Core.Path.{_≡_, refl, sym, ap, _∙_}
-use mathlib.Core.Bool.{Bool, true, false, _&&_, cond, and-false, and-true}
-use mathlib.Core.List.{List, [], _∷_, _++_, append-nil}
+use mathlib.Core.Path.{_≡_, refl, ap, _∙_}
+use mathlib.Core.Bool.{Bool, true, false, _&&_, and-false, and-true, and-assoc}
+use mathlib.Core.List.{List, [], _∷_, append-nil}
 use Prim.Native.Nat.{ℕ, zero, suc, _+_, _-_, _≤_, _<_}
-use native.Mathlib.Nat.{lt-irrefl}
 use native.Mathlib.Numerals.{add-one}
 use native.Mathlib.Omega.{arith}
 use lib.Dec.{eqb}
 use lib.ListN.{length, drop, getD, drop-of-length-le}
-use lib.Seq.{drop-cons, drop-length}
+use lib.Seq.{drop-cons}
 use lib.Ieee.{Float, nan, binary64, ofBits, toBits}
-use borrow.Author.Tests.{ne-eqb}
 use Rattle.seqs.specs.Front.{Front, front-start, front-at, front-end}
 use Rattle.geolists.specs.Words.{wordIn, isWord, orZero, wordsFrom, allFrom, floats, bits, same, verdict}
 
@@ -45,12 +43,8 @@ unfolding wordsFrom
 words-length zero at s = refl
 words-length (suc k) at s = ap suc (words-length k (at + 17) s)
 
-and-and : (a b c : Bool) → ((a && b) && c) ≡ (a && (b && c))
-and-and true b c = refl
-and-and false b c = refl
-
 pub all-turn : (ok ok′ : Bool) (n i at : ℕ) (s : List ℕ) → i < n → ok′ ≡ (ok && isWord (wordIn s at)) → (ok′ && allFrom (n - (i + 1)) (at + 17) s) ≡ (ok && allFrom (n - i) at s)
-all-turn ok ok′ n i at s h e = rw (e, all-step n i at s h) (and-and ok (isWord (wordIn s at)) (allFrom (n - (i + 1)) (at + 17) s))
+all-turn ok ok′ n i at s h e = rw (e, all-step n i at s h) (and-assoc ok (isWord (wordIn s at)) (allFrom (n - (i + 1)) (at + 17) s))
 
 -- nothing is read yet
 pub words-start : (d s : List ℕ) → Front d d 0 (wordsFrom (length d - 0) 0 s) (wordsFrom (length d) 0 s)
@@ -114,11 +108,3 @@ unfolding same bits
 bits-end l w i h k = rw (drop-of-length-le l h, drop-of-length-le w k)
 
 -- ---- verdicts
-pub verdict-le : (a w : List ℕ) → verdict a w ≤ 2
-unfolding verdict
-verdict-le [] w = omega arith
-verdict-le (v ∷ vs) w = go (same (v ∷ vs) w)
-  where
-    go : (t : Bool) → cond t 0 1 ≤ 2
-    go true = omega arith
-    go false = omega arith

@@ -1,11 +1,10 @@
 -- The words that a record's function answers, by its number; none where there is no such call. Definitions only.
-use Prim.Native.Nat.{ℕ, _+_, _-_, _*_}
+use Prim.Native.Nat.{ℕ, _+_, _-_}
 use mathlib.Core.Bool.{Bool, true, false, _&&_, cond}
-use mathlib.Core.List.{List, [], _∷_}
+use mathlib.Core.List.{List, []}
 use lib.Dec.{eqb, leb}
 use lib.ListN.{length, take, drop, getD}
 use lib.Ieee.{Float, nan}
-use Rattle.geom.specs.declared.point.P.{P}
 use Rattle.outlines.specs.declared.rule.FillRule.{FillRule}
 use Rattle.outlines.specs.declared.rule.FillRule.the-variants.{NonZero, EvenOdd}
 use Rattle.geom.specs.Point.{point}

@@ -1,7 +1,7 @@
 -- What a record of a call that sews is worth. Definitions only.
 use Prim.Native.Nat.{ℕ, _-_, _/_, _%_, _<_, _≤_}
 use mathlib.Core.Path.{_≡_}
-use mathlib.Core.Bool.{Bool, not, cond}
+use mathlib.Core.Bool.{not, cond}
 use mathlib.Core.List.{List}
 use lib.Dec.{ltb, eqb}
 use lib.ListN.{length, take, drop, getD}

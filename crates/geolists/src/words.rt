@@ -2,7 +2,7 @@
 ghost use mathlib.Core.Path.{_≡_};
 ghost use mathlib.Core.Bool.{_&&_};
 ghost use mathlib.Core.List.{_++_};
-ghost use Prim.Native.Nat.{_*_, _+_, _≤_, _<_, _^_};
+ghost use Prim.Native.Nat.{_*_, _+_, _≤_, _<_};
 ghost use lib.ListN.{length, drop};
 ghost use Rattle.geolists.specs.Words.{wordIn, isWord, orZero, wordsFrom, allFrom, floats};
 use leaves::of_bits;

@@ -59,12 +59,18 @@ impl P {
     pub fn norm(self) -> P
         ensures { λ r. ⌜ r ≡ norm self ⌝ }
     {
-        let l = self.len();
+        self.towards(self.len())
+    }
+
+    // The same where the length is known, which saves a root.
+    pub fn towards(self, l: f64) -> P
+        requires { ⌜ l ≡ len self ⌝ }
+        ensures { λ r. ⌜ r ≡ norm self ⌝ }
+    {
         if l > 1e-12 {
-            self.times(1.0 / l)
-        } else {
-            P { x: 0.0, y: 0.0 }
+            return self.times(1.0 / l);
         }
+        P { x: 0.0, y: 0.0 }
     }
 
     pub fn perp(self) -> P

@@ -4,7 +4,7 @@ use mathlib.Core.Bool.{Bool}
 use mathlib.Core.List.{List}
 use lib.IntN.{ℤ}
 use lib.Ieee.{Float}
-use Rattle.refusal.specs.Refusal.{DONE, LAYOUT, NUMBER, SETTING, TURN, Answer, done, refused, unless, _then_, answer}
+use Rattle.refusal.specs.Refusal.{DONE, LAYOUT, NUMBER, SETTING, TURN, Answer, done, refused, unless, answer, _then_}
 use Rattle.geom.specs.declared.point.P.{P}
 use Rattle.outlines.specs.declared.rule.FillRule.{FillRule}
 use Rattle.geometry.specs.declared.checked.Spot.{Spot}

@@ -3,7 +3,7 @@ use Prim.Native.Nat.{ℕ}
 use mathlib.Core.List.{List}
 use lib.ListN.{length}
 use lib.Ieee.{Float}
-use Rattle.refusal.specs.Refusal.{LAYOUT, NUMBER, SETTING, Answer, unless, _then_, answer}
+use Rattle.refusal.specs.Refusal.{LAYOUT, NUMBER, SETTING, Answer, unless, answer, _then_}
 use Rattle.refusal.specs.Sewn.{sewn, output}
 use Rattle.refusal.specs.declared.Sewn.{Sewn}
 use Rattle.geom.specs.Outline.{points}

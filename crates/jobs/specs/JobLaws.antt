@@ -4,7 +4,7 @@ use mathlib.Core.Bool.{true, false}
 use mathlib.Core.List.{List, [], _∷_, _++_}
 use mathlib.Core.Logic.{_⊎_, inl, inr}
 use Prim.Native.Nat.{ℕ, zero, suc, _+_, _-_, _*_, _^_, _≤_, _<_}
-use native.Mathlib.Nat.{lt-irrefl, lt-of-lt-of-le}
+use native.Mathlib.Nat.{lt-irrefl, lt-of-lt-of-le, pos-of-ne-zero}
 use native.Mathlib.Omega.{arith}
 use lib.Dec.{leb, eqb}
 use lib.Pow.{pow-mono, pow-add}
@@ -122,13 +122,9 @@ ring k n s m p e = go (either (leb (2 + 16 * count s) (length s))) (either (leb 
 pub counted-last : (n : ℕ) (s : List ℕ) (m : ℕ) → counted 0 n s ≡ Corners m → n ≡ m
 counted-last n s m e = go (either (eqb (length s) 0))
   where
-    positive : (j : ℕ) → (j ≡ 0 → ⊥) → 0 < j
-    positive zero h = absurd (h refl)
-    positive (suc j) h = omega arith
-
     go : (eqb (length s) 0 ≡ true) ⊎ (eqb (length s) 0 ≡ false) → n ≡ m
     go (inl a) = let f : Corners n ≡ Corners m = sym (counted-end n s (eqb-true _ _ a)) ∙ e in cc
-    go (inr a) = badly (sym (counted-over n s (positive (length s) (eqb-false _ _ a))) ∙ e)
+    go (inr a) = badly (sym (counted-over n s (pos-of-ne-zero (eqb-false _ _ a))) ∙ e)
 
 pub counted-few : (k n : ℕ) (s : List ℕ) (m : ℕ) → n ≤ 1024 → counted k n s ≡ Corners m → m ≤ 1024
 counted-few zero n s m h e = omega (arith, counted-last n s m e)

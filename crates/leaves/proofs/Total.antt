@@ -1,13 +1,13 @@
 -- The root of every pattern: which answer it has.
 use mathlib.Core.Path.{_≡_, refl, sym, ap, subst, _∙_}
 use mathlib.Core.Bool.{Bool, true, false, not, cond}
-use Prim.Native.Nat.{ℕ, zero, suc, _+_, _-_, _*_, _/_, _%_, _^_, _≤_, _<_}
+use Prim.Native.Nat.{ℕ, zero, suc, _+_, _*_, _/_, _%_, _^_, _≤_, _<_}
 use native.Mathlib.Nat.{mul-pos, zero-mul, lt-irrefl}
 use native.Mathlib.Decide.{decLt}
 use native.Mathlib.Omega.{arith}
-use lib.IntN.{ℤ, pos}
+use lib.IntN.{ℤ}
 use lib.Pow.{pow-pos}
-use lib.Dec.{T, leb, eqb}
+use lib.Dec.{T, eqb}
 use lib.Count.{trailingZeros}
 use borrow.Author.Tests.{lt-leb, le-leb, ne-eqb}
 use lib.Ieee.{Float, nan, inf, fin, binary64, up, down, minus, odd, ofBits, toBits, ofFields, fits, isNan, ne}
@@ -16,7 +16,7 @@ use lib.Ieee.Digits.{Equals, odd-val}
 use lib.Ieee.Fits.{down-pos}
 use lib.Ieee.Bits.{ofBits-toBits}
 use Rattle.numbers.specs.Root.{root}
-use Rattle.numbers.specs.Decode.{read}
+use Rattle.numbers.specs.Decode.{read, no-product}
 
 pub is-nan : (x : Float) → ne x x ≡ true → x ≡ nan
 is-nan x h = differs-from-itself x (subst T (sym h) tt)
@@ -52,12 +52,9 @@ unfolding ofBits root
 infinity-own b e = subst (λ (b : ℕ). Own (ofBits binary64 b)) (sym e) refl
 
 -- ---- below zero
-none : (a d : ℕ) → 0 < a → 0 < d → 0 ≡ a * d → ⊥
-none a d p q e = lt-irrefl 0 (subst (λ (x : ℕ). 0 < x) (sym e) (mul-pos p q))
-
 below-fin : (m : ℕ) (e : ℤ) (a : ℕ) → 0 < a → Equals (fin true m e) a (2 ^ 1074) → root (fin true m e) ≡ nan
 unfolding root
-below-fin zero e a p h = absurd (none a (down e) p (down-pos e) (sym (ap (λ (x : ℕ). x * 2 ^ 1074) (zero-mul (up e)) ∙ zero-mul (2 ^ 1074)) ∙ h))
+below-fin zero e a p h = absurd (no-product a (down e) p (down-pos e) (sym (ap (λ (x : ℕ). x * 2 ^ 1074) (zero-mul (up e)) ∙ zero-mul (2 ^ 1074)) ∙ h))
 below-fin (suc m) e a p h = refl
 
 below-odd : (d q k : ℕ) → 0 < q → root (odd d true q k 1074) ≡ nan

@@ -1,8 +1,8 @@
 -- Document 01's answers of the leaves: the number and the value of each case, and when NUMBER is given. Definitions only.
 use Prim.Native.Nat.{ℕ}
-use mathlib.Core.Bool.{Bool, true, false, _&&_, cond}
+use mathlib.Core.Bool.{_&&_, cond}
 use lib.Ieee.{Float, le}
-use Rattle.refusal.specs.Refusal.{DONE, NUMBER, Answer, done, refused, numberUnless}
+use Rattle.refusal.specs.Refusal.{Answer, done, refused, numberUnless}
 use Rattle.numbers.specs.Num.{zero64}
 use Rattle.numbers.specs.Root.{root}
 use Rattle.numbers.specs.Whole.{floor, ceil}

@@ -1,6 +1,6 @@
 // The square root, digit by digit: no 128 bits, no multiplication of what is left.
 ghost use mathlib.Core.Path.{_≡_};
-ghost use Prim.Native.Nat.{ℕ, _+_, _*_, _^_, _<_, _≤_};
+ghost use Prim.Native.Nat.{_+_, _*_, _^_, _<_, _≤_};
 ghost use lib.Ieee.{binary64, ofBits};
 ghost use Rattle.numbers.specs.Root.{nearRoot, rootUnits, root};
 

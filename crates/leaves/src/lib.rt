@@ -23,3 +23,4 @@ pub use order::magnitude;
 pub use order::smaller;
 pub use whole::ceil;
 pub use whole::floor;
+pub use whole::nearest;

@@ -1,9 +1,11 @@
-// Floor and ceiling, a zero keeping its operand's sign.
+// Floor and ceiling, a zero keeping its operand's sign; and halves rounded away from zero.
 ghost use mathlib.Core.Path.{_≡_};
 ghost use mathlib.Core.Bool.{cond};
 ghost use lib.Ieee.{neg};
 ghost use Rattle.numbers.specs.Whole.{wholeOf, floor, ceil};
+ghost use Rattle.numbers.specs.Rounding.{nearestCount};
 use crate::cast::of_u64;
+use crate::cast::to_u64;
 use crate::order::is_negative;
 use crate::order::magnitude;
 
@@ -46,4 +48,15 @@ pub fn ceil(x: f64) -> f64
     ensures { λ r. ⌜ r ≡ ceil x ⌝ }
 {
     whole(x, !is_negative(x))
+}
+
+// The whole number nearest to the magnitude, halves up: twice it is exact, and is cut. From 2^53 on it is whole itself.
+pub fn nearest(x: f64) -> u64
+    ensures { λ r. ⌜ r ≡ nearestCount x ⌝ }
+{
+    let v = magnitude(x);
+    if v < 9007199254740992.0 {
+        return (to_u64(v + v) + 1) / 2;
+    }
+    to_u64(v)
 }

@@ -1,17 +1,20 @@
 -- What is proved of the limits' tests: a good number by its two ends, and the turns of a loop over numbers. Assumes nothing.
-use Prim.Native.Nat.{ℕ, _+_, _-_, _*_, _/_, _%_, _≤_, _<_}
+use Prim.Native.Nat.{ℕ, _+_, _*_, _/_, _%_, _≤_, _<_}
 use native.Mathlib.Omega.{arith}
 use mathlib.Core.Path.{_≡_, refl, sym, _∙_}
 use mathlib.Core.Bool.{Bool, true, false, _&&_, and-false, and-true}
 use mathlib.Core.List.{List}
 use native.Mathlib.Nat.{mul-pos}
-use lib.Dec.{leb, eqb}
+use lib.Dec.{leb, eqb, lit≤}
 use lib.IntN.{ℤ, pos}
 use lib.ListN.{length, drop, getD}
 use lib.Ieee.{Float, nan, inf, fin, neg, lt, le, eq, up, down, ofInt, round}
 use lib.Ieee.Fits.{up-pos, down-pos}
 use borrow.Author.Tests.{lt-ltb, eqb-true, eqb-false, eq-eqb, ne-eqb}
+use Rattle.numbers.specs.Num.{real}
 use Rattle.numbers.specs.Order.{finite, magnitude}
+use Rattle.numbers.specs.Value.{Within}
+use Rattle.numbers.specs.Laws as laws
 use Rattle.seqs.specs.Front.{next, none}
 use Rattle.seqs.specs.Tests.{and-both}
 use Rattle.geom.specs.Outline.{rising, Layout}
@@ -46,6 +49,11 @@ number-within (inf true) = unfold le in refl
 number-within (inf false) = unfold le in refl
 number-within (fin false m e) = rw (across 3125 m (pos 5) e (omega (arith, whole-pos 3125 (pos 5) e (omega arith))))
 number-within (fin true m e) = rw (turned 3125 m (pos 5) e, across m 3125 e (pos 5) (omega (arith, whole-pos 3125 (pos 5) e (omega arith)))) (and-true _)
+
+-- an accepted number is at most 2 ^ 17 in size
+pub good-within : (x : Float) → goodNumber x ≡ true → Within 17 x
+unfolding goodNumber largest
+good-within x h = laws.within-le 17 x (real (pos 100000)) (laws.holds (and-both (finite x) (le (magnitude x) (real (pos 100000))) h .1)) (laws.within-real 17 (pos 100000) (lit≤ tt) (lit≤ tt))
 
 -- ---- numbers
 

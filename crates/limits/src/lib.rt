@@ -13,6 +13,12 @@ pub const MOST_CORNERS: usize = 1024;
 pub const MOST_ON_LINE: usize = 1024;
 
 pub const MOST_SYNCS: usize = 256;
+// Of a fill; of cross stitch, either way; of a pass.
+pub const MOST_ROWS: usize = 4096;
+
+pub const MOST_CELLS: usize = 4096;
+
+pub const MOST_PAIRS: u64 = 65536;
 // The size of a coordinate.
 pub const LARGEST: f64 = 100000.0;
 

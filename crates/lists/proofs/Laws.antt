@@ -20,9 +20,6 @@ use Rattle.lists.specs.Words.{digitOf, wordFrom}
 use Rattle.lists.specs.Judged.{framed}
 use Rattle.lists.specs.declared.hex.Word.the-variants.{Nothing}
 
-clash : {X : Type 0} → true ≡ false → X
-clash e = absurd (true≢false e)
-
 -- ---- digits
 pub digit-number : (b : ℕ) → 48 ≤ b → b ≤ 57 → b - 48 ≡ digitOf b
 unfolding digitOf
@@ -114,7 +111,7 @@ own n f t = toZ-ofZ w64 n f ∙ go n (subst (λ (z : ℤ). ltZ z (pos 0) ≡ fal
   where
     go : (n : ℤ) → ltZ n (pos 0) ≡ false → n ≡ pos (ofZ w64 n)
     go (pos a) t = refl
-    go (negsuc a) t = clash t
+    go (negsuc a) t = absurd (true≢false t)
 
 -- bits at or above half, turned about -1
 pub record Mirrored (b : ℕ) : Type 0 where

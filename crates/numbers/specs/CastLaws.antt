@@ -60,7 +60,7 @@ opposite-back m e (suc a) f h = unfold finite ofInt in rw (back-is true m e (suc
 small-part : (n a d : ℕ) → 0 < d → a ≤ 2 ^ n * d → a ≡ a / d * d → a / d ≤ 2 ^ n
 small-part n a d D h e = le-of-mul-le-mul-right {k = d} (omega arith) D
 
-abs-opposite : (a : ℕ) → natAbs (negℤ (pos a)) ≡ a
+pub abs-opposite : (a : ℕ) → natAbs (negℤ (pos a)) ≡ a
 abs-opposite zero = refl
 abs-opposite (suc a) = refl
 

@@ -38,12 +38,12 @@ read-mid b lo hi =
     ∙ mid false (b / 2 ^ 52 - 1) (b % 2 ^ 52) (omega arith)
 
 -- ---- the root of a value that is a units
-none : (a d : ℕ) → 0 < a → 0 < d → 0 ≡ a * d → ⊥
-none a d p q e = lt-irrefl 0 (subst (λ (x : ℕ). 0 < x) (sym e) (mul-pos p q))
+pub no-product : (a d : ℕ) → 0 < a → 0 < d → 0 ≡ a * d → ⊥
+no-product a d p q e = lt-irrefl 0 (subst (λ (x : ℕ). 0 < x) (sym e) (mul-pos p q))
 
 root-fin : (m : ℕ) (e : ℤ) (a : ℕ) → 0 < a → Equals (fin false m e) a (2 ^ 1074) → root (fin false m e) ≡ rootUnits (a * 2 ^ 1074)
 unfolding root
-root-fin zero e a p h = absurd (none a (down e) p (down-pos e) (sym (ap (λ (x : ℕ). x * 2 ^ 1074) (zero-mul (up e)) ∙ zero-mul (2 ^ 1074)) ∙ h))
+root-fin zero e a p h = absurd (no-product a (down e) p (down-pos e) (sym (ap (λ (x : ℕ). x * 2 ^ 1074) (zero-mul (up e)) ∙ zero-mul (2 ^ 1074)) ∙ h))
 root-fin (suc m) e a p h = ap (λ (n : ℕ). rootUnits (n * 2 ^ 1074)) (ap (λ (x : ℕ). x / down e) h ∙ mul-div-cancel a (down-pos e))
 
 pub root-odd : (d q k : ℕ) → 0 < q → root (odd d false q k 1074) ≡ rootUnits (q * 2 ^ k * 2 ^ 1074)

@@ -1,5 +1,5 @@
 -- `le` and `lt` order the floats: transitive, and off NaN total, each the other's denial.
-use mathlib.Core.Path.{_≡_, sym, subst}
+use mathlib.Core.Path.{_≡_, refl, sym, subst}
 use mathlib.Core.Bool.{Bool, true, false, not, _||_, Bool·beq}
 use mathlib.Core.Logic.{_⊎_, inl, inr}
 use Prim.Native.Nat.{ℕ, _+_, _*_, _≤_, _<_}
@@ -178,6 +178,14 @@ eq-sym (fin s m e) (fin t n d) h =
     alike true false b h = h
     alike false true b h = h
     alike false false b h = h
+
+pub neg-neg : (x : Float) → neg (neg x) ≡ x
+unfolding neg
+neg-neg nan = refl
+neg-neg (inf true) = refl
+neg-neg (inf false) = refl
+neg-neg (fin true m e) = refl
+neg-neg (fin false m e) = refl
 
 -- ---- the other sign turns the order round
 pub neg-le : (x y : Float) → T (le x y) → T (le (neg y) (neg x))

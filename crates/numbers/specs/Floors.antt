@@ -1,8 +1,8 @@
 -- `floor` and `ceil` have what IEEE 754 asks of them: the proof. `IsFloor` and `IsCeil` of Value say what it comes to.
 use mathlib.Core.Path.{_≡_, refl, sym, ap, _∙_}
 use mathlib.Core.Bool.{Bool, true, false, cond}
-use Prim.Native.Nat.{ℕ, zero, suc, _+_, _-_, _*_, _/_, _%_, _^_, _≤_, _<_}
-use native.Mathlib.Nat.{mul-one, mul-right-comm, mul-mod-left, mul-le-mul-right, mul-lt-mul-of-pos-right, le-of-mul-le-mul-right, lt-of-mul-lt-mul-right, mul-div-cancel, div-add-mod', mod-lt}
+use Prim.Native.Nat.{ℕ, _+_, _-_, _*_, _/_, _%_, _^_, _≤_, _<_}
+use native.Mathlib.Nat.{mul-one, mul-right-comm, mul-mod-left, mul-le-mul-right, mul-lt-mul-of-pos-right, le-of-mul-le-mul-right, lt-of-mul-lt-mul-right, mul-div-cancel, div-add-mod', mod-lt, pos-of-ne-zero}
 use native.Mathlib.Omega.{arith}
 use lib.IntN.{ℤ, pos, negℤ, _+ℤ_, negℤ-+ℤ, +ℤ-assoc, +ℤ-invl, +ℤ-idr}
 use lib.Pow.{pow-pos}
@@ -27,12 +27,8 @@ part-away a d D = go (eqb (a % d) 0) (eqb→eq (a % d) 0) refl
     go : (b : Bool) → (T b → a % d ≡ 0) → eqb (a % d) 0 ≡ b → (a ≤ (a / d + cond b 0 1) * d) × ((a / d + cond b 0 1) * d < a + d)
     go true z e = let r = z tt in (omega (arith, div-add-mod' a d), omega (arith, div-add-mod' a d))
     go false z e =
-        let r : 0 < a % d = some (a % d) (eqb-false (a % d) 0 e) in
+        let r : 0 < a % d = pos-of-ne-zero (eqb-false (a % d) 0 e) in
         (omega (arith, div-add-mod' a d, mod-lt a D), omega (arith, div-add-mod' a d))
-      where
-        some : (n : ℕ) → (n ≡ 0 → ⊥) → 0 < n
-        some zero f = absurd (f refl)
-        some (suc n) f = omega arith
 
 -- ---- the result, in units
 pub value-units : (v : Float) (s : Bool) (q : ℕ) → HasValue v s q 1 → (unitsOf v ≡ q * 2 ^ 1074) × (negative v ≡ s) × T (finite v)

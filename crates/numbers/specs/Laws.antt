@@ -22,8 +22,8 @@ pub use Rattle.numbers.specs.FloatOrder.{lt-irrefl, lt-le, eq-le, eq-sym
 pub use Rattle.numbers.specs.FloatOrder.{le-left, le-right, finite-number}
 -- what lies between finite numbers is finite
 pub use Rattle.numbers.specs.FloatOrder.{between-finite}
--- x ≤ y makes -y ≤ -x
-pub use Rattle.numbers.specs.FloatOrder.{neg-le}
+-- x ≤ y makes -y ≤ -x; turned twice a sign is what it was
+pub use Rattle.numbers.specs.FloatOrder.{neg-le, neg-neg}
 -- ---- the total order, -0 before +0
 -- nothing is before itself; x before y before z: so x before z; never both ways
 pub use Rattle.numbers.specs.OrderLaws.{before-irrefl, before-trans, before-asym}
@@ -52,6 +52,8 @@ pub use Rattle.numbers.specs.Roots.{root-of-zero}
 pub use Rattle.numbers.specs.Ieee754.{root-below, root-is}
 -- 0 < x, 0 < y: x < y ⊗ y makes root x ≤ y, and y ⊗ y < x makes y ≤ root x
 pub use Rattle.numbers.specs.RootBounds.{root-under, root-over}
+-- 2 ^ -500 ≤ y: the root of y ⊗ y is y, if that is finite and not rounded to zero
+pub use Rattle.numbers.specs.SquareRoots.{root-square}
 -- ---- floor and ceiling
 -- x ≤ y makes floor x ≤ floor y and ceil x ≤ ceil y
 pub use Rattle.numbers.specs.FloorLaws.{floor-mono, ceil-mono}
@@ -70,8 +72,9 @@ pub use Rattle.numbers.specs.Monotone.{add-mono, sub-mono}
 pub use Rattle.numbers.specs.Monotone.{mul-mono, mul-mono-right, mul-anti}
 -- x ≤ x′ makes x ⊘ y ≤ x′ ⊘ y where 0 < y, and 0 < y ≤ y′ makes x ⊘ y′ ≤ x ⊘ y where 0 ≤ x
 pub use Rattle.numbers.specs.Monotone.{div-mono, div-anti}
--- s ≤ s ⊕ l and s ⊖ l ≤ s where 0 ≤ l
+-- s ≤ s ⊕ l and s ⊖ l ≤ s where 0 ≤ l; the first past every number too, where 0 ≤ s
 pub use Rattle.numbers.specs.Monotone.{add-up, sub-down}
+pub use Rattle.numbers.specs.Squares.{over-up}
 -- 0 ≤ x ⊕ y, x ⊗ y and x ⊘ y where neither is below zero; 0 ≤ x ⊖ y where y ≤ x; 0 ≤ x ⊗ x
 pub use Rattle.numbers.specs.Monotone.{sum-up, mul-up, div-up, sub-up, square-up}
 -- j ≤ k makes real j ≤ real k
@@ -100,6 +103,8 @@ pub use Rattle.numbers.specs.CastLaws.{floor-signed, ceil-signed, floor-
 pub use Rattle.numbers.specs.CastLaws.{floor-number, ceil-number}
 -- every whole number of 53 digits is a float
 pub use Rattle.numbers.specs.CastLaws.{real-whole}
+-- the rounded magnitude by twice it, below 2 ^ 53
+pub use Rattle.numbers.specs.RoundingLaws.{nearest-is, twice-small}
 -- x ≤ y makes x as an integer ≤ y as one
 pub use Rattle.numbers.specs.CastLaws.{signed-mono, unsigned-mono}
 

@@ -1,10 +1,11 @@
--- Definitions: what the leaves are (Num, Root, Order, Whole), and what is said of their values (Value).
+-- Definitions: what the leaves are (Num, Root, Order, Whole, Rounding), and what is said of their values (Value).
 -- Then what is proved of them: Ieee754 has the theorems against the standard, and Laws is what callers use.
 pub mod Num
 pub mod Root
 pub mod Order
 pub mod Whole
 pub mod Value
+pub mod Rounding
 pub mod Units
 pub mod Fraction
 pub mod FloatOrder
@@ -24,6 +25,8 @@ pub mod FloorLaws
 pub mod Bounds
 pub mod RootBounds
 pub mod Squares
+pub mod SquareRoots
 pub mod CastLaws
+pub mod RoundingLaws
 pub mod Ieee754
 pub mod Laws

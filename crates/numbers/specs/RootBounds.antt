@@ -2,7 +2,7 @@
 use mathlib.Core.Path.{_≡_, sym, ap, _∙_, subst}
 use mathlib.Core.Bool.{Bool, true, false}
 use Prim.Native.Nat.{ℕ, zero, suc, _+_, _*_, _^_, _≤_, _<_, zero-le}
-use native.Mathlib.Nat.{zero-mul, one-mul, mul-pos, mul-le-mul, mul-le-mul-right, le-of-mul-le-mul-right, eq-of-mul-eq-mul-right, le-trans, le-of-eq, lt-of-not-le, le-of-lt}
+use native.Mathlib.Nat.{zero-mul, one-mul, mul-pos, mul-le-mul, mul-le-mul-right, le-of-mul-le-mul-right, le-trans, le-of-eq, lt-of-not-le, le-of-lt}
 use native.Mathlib.Decide.{decLe}
 use native.Mathlib.Omega.{arith}
 use lib.Dec.{T, lit<}
@@ -16,29 +16,21 @@ use Rattle.numbers.specs.Num.{_⊗_, zero64}
 use Rattle.numbers.specs.Root.{root}
 use Rattle.numbers.specs.Order.{negative, finite}
 use Rattle.numbers.specs.Value.{unitsOf, Within, AtLeast, Nearer}
-use Rattle.numbers.specs.Units.{units-exact, own-units}
-use Rattle.numbers.specs.Fraction.{lt→cross}
+use Rattle.numbers.specs.Units.{units-exact, units-of, units-within, own-units}
 use Rattle.numbers.specs.FloatOrder as order
 use Rattle.numbers.specs.Rounded.{rounded-le, own-rounded, mul-rounded}
-use Rattle.numbers.specs.Roots.{above-is, above-negative, nothing-below}
+use Rattle.numbers.specs.Roots.{above-is, above-negative, nothing-below, not-above}
 use Rattle.numbers.specs.Bounds.{power, least}
 
 -- ---- bounds, in units
 scale-down : (a d u w l : ℕ) → 0 < l → a * l ≡ u * d → u ≤ w * l → a ≤ w * d
 scale-down a d u w l L e h = le-of-mul-le-mul-right {k = l} (omega (arith, mul-le-mul-right d h)) L
 
-scale-up : (a d u w l : ℕ) → 0 < d → a * l ≡ u * d → a ≤ w * d → u ≤ w * l
-scale-up a d u w l D e h = le-of-mul-le-mul-right {k = d} (omega (arith, mul-le-mul-right l h)) D
-
 within-units : (n : ℕ) (x : Float) → T (fits binary64 x) → T (finite x) → unitsOf x ≤ 2 ^ n * 2 ^ 1074 → Within n x
 unfolding Within finite
 within-units n nan f g h = absurd g
 within-units n (inf s) f g h = absurd g
 within-units n (fin s m e) f g h = scale-down (m * up e) (down e) (unitsOf (fin s m e)) (2 ^ n) (2 ^ 1074) (pow-pos 1074) (units-exact s m e f) h
-
-units-within : (n : ℕ) (s : Bool) (m : ℕ) (e : ℤ) → T (fits binary64 (fin s m e)) → Within n (fin s m e) → unitsOf (fin s m e) ≤ 2 ^ n * 2 ^ 1074
-unfolding Within
-units-within n s m e f h = scale-up (m * up e) (down e) (unitsOf (fin s m e)) (2 ^ n) (2 ^ 1074) (down-pos e) (units-exact s m e f) h
 
 -- ---- a square above n lies above the root, and one below it below
 nearer-top : (n r y : ℕ) → n ≤ y * y → Nearer n r y → r ≤ y
@@ -60,16 +52,6 @@ nearer-bottom n r y h p = go (decLe y r)
         let l : r < y = lt-of-not-le g in
         let k : r ≤ y = le-of-lt l in
         omega (arith, p .over l, mul-le-mul k k, mul-le-mul-right y k)
-
--- the units of a value a / c
-units-of : (v : Float) (s : Bool) (a c : ℕ) → 0 < c → T (fits binary64 v) → HasValue v s a c → (unitsOf v * c ≡ a * 2 ^ 1074) × T (finite v)
-unfolding finite
-units-of nan s a c C f h = absurd h
-units-of (inf t) s a c C f h = absurd h
-units-of (fin t m e) s a c C f h = (cross (m * up e) (down e) (unitsOf (fin t m e)) (2 ^ 1074) (down-pos e) (units-exact t m e f) (h .1), tt)
-  where
-    cross : (x d u l : ℕ) → 0 < d → x * l ≡ u * d → x * c ≡ a * d → u * c ≡ a * l
-    cross x d u l D p q = eq-of-mul-eq-mul-right d D (u * c) (a * l) (omega (arith, ap (λ (z : ℕ). z * c) p, ap (λ (z : ℕ). z * l) q))
 
 pub within-root : (n : ℕ) (x : Float) → n ≤ 1000 → T (fits binary64 x) → T (le zero64 x) → Within (n + n) x → Within n (root x)
 within-root n nan l f p h = unfold Within in absurd h
@@ -185,11 +167,6 @@ module _ (m n : ℕ) (e d : ℤ) (f : T (fits binary64 (fin false (suc m) e))) (
           (mul-le-mul-right (2 ^ 1074) (nearer-bottom (unitsOf x * 2 ^ 1074) (unitsOf (root x)) (unitsOf y) l (above-is m e f .nearest y g tt)))
       go (no k) = absurd (order.le-lt-clash x (y ⊗ y) (below-square (le-of-lt (lt-of-not-le k))) h)
 
-not-over : (s : Bool) (e : ℤ) → T (lt zero64 (fin s zero e)) → ⊥
-unfolding finite
-not-over true e h = omega (arith, lt→cross zero64 (fin true zero e) tt tt h)
-not-over false e h = omega (arith, lt→cross zero64 (fin false zero e) tt tt h)
-
 pub root-under : (x y : Float) → T (fits binary64 x) → T (fits binary64 y) → T (finite y) → T (lt zero64 x) → T (lt zero64 y) → T (lt x (y ⊗ y)) → T (le (root x) y)
 root-under x nan f g k p q h = unfold finite in absurd k
 root-under x (inf s) f g k p q h = unfold finite in absurd k
@@ -199,7 +176,7 @@ root-under (inf true) (fin false n d) f g k p q h = unfold lt in absurd p
 root-under (inf false) (fin false n d) f g k p q h =
     let w = fin false n d ⊗ fin false n d in
     absurd (order.le-lt-clash w (inf false) (order.le-inf w (order.le-right (inf false) w (order.lt-le (inf false) w h))) h)
-root-under (fin s zero e) (fin false n d) f g k p q h = absurd (not-over s e p)
+root-under (fin s zero e) (fin false n d) f g k p q h = absurd (not-above s e p)
 root-under (fin true (suc m) e) (fin false n d) f g k p q h = unfold lt in absurd p
 root-under (fin false (suc m) e) (fin false n d) f g k p q h = fine-under m n e d f g h
 
@@ -210,6 +187,6 @@ root-over x (fin true n d) f g k p q h = unfold lt in absurd q
 root-over nan (fin false n d) f g k p q h = unfold lt in absurd p
 root-over (inf true) (fin false n d) f g k p q h = unfold lt in absurd p
 root-over (inf false) (fin false n d) f g k p q h = unfold root finite in order.le-inf (fin false n d) (order.finite-number (fin false n d) tt)
-root-over (fin s zero e) (fin false n d) f g k p q h = absurd (not-over s e p)
+root-over (fin s zero e) (fin false n d) f g k p q h = absurd (not-above s e p)
 root-over (fin true (suc m) e) (fin false n d) f g k p q h = unfold lt in absurd p
 root-over (fin false (suc m) e) (fin false n d) f g k p q h = fine-over m n e d f g h

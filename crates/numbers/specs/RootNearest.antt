@@ -13,7 +13,7 @@ use lib.Count.{trailingZeros}
 use lib.Ieee.Fits.{down-pos}
 use lib.Ieee.Digits.{odd-val, size-lt, size-le, size-reaches}
 use Rattle.numbers.specs.Root.{nearRoot, rootUnits, isqrt}
-use Rattle.numbers.specs.RootLaws.{Root, isqrt-is, square-next, less-root}
+use Rattle.numbers.specs.RootLaws.{Root, isqrt-is, square-next, less-root, square-two}
 use Rattle.numbers.specs.Decode.{rootUnits-at, apart}
 use Rattle.numbers.specs.Value.{unitsOf, Nearer}
 use Rattle.numbers.specs.Units.{Grid}
@@ -22,9 +22,6 @@ use Rattle.numbers.specs.Units.{Grid}
 pub record Near (m q : ℕ) : Type 0 where
   pub low : (2 * q - 1) * (2 * q - 1) < 4 * m
   pub high : 4 * m < (2 * q + 1) * (2 * q + 1)
-
-square-two : (r : ℕ) → (2 * r) * (2 * r) ≡ 4 * (r * r)
-square-two r = omega arith
 
 -- with q the whole root: 4 * m against (2 * q + 1) ^ 2 = 4 * q * q + 4 * q + 1, which is no multiple of 4
 near-is : (m q : ℕ) → 0 < q → Root m q → Near m (q + cond (leb (m - q * q) q) 0 1)
@@ -51,7 +48,7 @@ nearRoot-near d m p h = near-is m (isqrt d m) (some (isqrt d m) (isqrt-is d m h)
     some (suc q) r = omega arith
 
 -- from 2 ^ 52 * 2 ^ k on, a value is a multiple of 2 ^ k
-multiple : (k y : ℕ) → Grid y → 2 ^ 52 * 2 ^ k ≤ y → (c : ℕ) × (y ≡ c * 2 ^ k)
+pub multiple : (k y : ℕ) → Grid y → 2 ^ 52 * 2 ^ k ≤ y → (c : ℕ) × (y ≡ c * 2 ^ k)
 multiple k y g h = go (decLe k (g .places))
   where
     go : Dec (k ≤ g .places) → (c : ℕ) × (y ≡ c * 2 ^ k)
@@ -66,8 +63,8 @@ multiple k y g h = go (decLe k (g .places))
         (le-trans h (le-of-eq (g .is))))
 
 -- ---- no value is nearer
-scale : (a p : ℕ) → (a * p) * (a * p) ≡ a * a * (p * p)
-scale a p = omega arith
+pub scaled : (a p : ℕ) → (a * p) * (a * p) ≡ a * a * (p * p)
+scaled a p = omega arith
 
 -- with p for 2 ^ k
 module _ (m q p : ℕ) (near : Near m q) (big : 2 ^ 52 ≤ q) (P : 0 < p) where
@@ -76,13 +73,13 @@ module _ (m q p : ℕ) (near : Near m q) (big : 2 ^ 52 ≤ q) (P : 0 < p) where
       let l : q < c = lt-of-mul-lt-mul-right p h in
       let a : (2 * q + 1) * p ≤ q * p + c * p = le-trans (mul-le-mul-right p (omega arith)) (le-of-eq (add-mul q c p)) in
       lt-of-lt-of-le
-      (lt-of-lt-of-le (lt-of-le-of-lt (le-of-eq (sym (mul-assoc 4 m (p * p)))) (mul-lt-mul-of-pos-right (near .high) (mul-pos P P))) (le-of-eq (sym (scale (2 * q + 1) p))))
+      (lt-of-lt-of-le (lt-of-le-of-lt (le-of-eq (sym (mul-assoc 4 m (p * p)))) (mul-lt-mul-of-pos-right (near .high) (mul-pos P P))) (le-of-eq (sym (scaled (2 * q + 1) p))))
       (mul-le-mul a a)
 
   below : (y : ℕ) → q * p + y ≤ (2 * q - 1) * p → (q * p + y) * (q * p + y) < 4 * (m * (p * p))
   below y h =
       lt-of-le-of-lt (mul-le-mul h h)
-      (lt-of-le-of-lt (le-of-eq (scale (2 * q - 1) p)) (lt-of-lt-of-le (mul-lt-mul-of-pos-right (near .low) (mul-pos P P)) (le-of-eq (mul-assoc 4 m (p * p)))))
+      (lt-of-le-of-lt (le-of-eq (scaled (2 * q - 1) p)) (lt-of-lt-of-le (mul-lt-mul-of-pos-right (near .low) (mul-pos P P)) (le-of-eq (mul-assoc 4 m (p * p)))))
 
   short-of : (y : ℕ) → y ≤ (q - 1) * p → q * p + y ≤ (2 * q - 1) * p
   short-of y h =
@@ -112,7 +109,7 @@ nearest-of m q k y near big large g = record { under = under; over = over }
         let twice : (r + r) * (r + r) ≡ 4 * (r * r) = omega arith in
         let s : r + y < r + r = omega arith in
         lt-of-lt-of-le (squares (r + y) (r + r) s)
-        (le-trans (le-of-eq (twice ∙ ap (λ (x : ℕ). 4 * x) (scale q (2 ^ k)))) (mul-le-mul-left 4 (mul-le-mul-right (2 ^ k * 2 ^ k) (le-trans (le-of-eq (ap (λ (x : ℕ). x * x) e)) large))))
+        (le-trans (le-of-eq (twice ∙ ap (λ (x : ℕ). 4 * x) (scaled q (2 ^ k)))) (mul-le-mul-left 4 (mul-le-mul-right (2 ^ k * 2 ^ k) (le-trans (le-of-eq (ap (λ (x : ℕ). x * x) e)) large))))
       where
         squares : (a b : ℕ) → a < b → a * a < b * b
         squares a b h = lt-of-le-of-lt (mul-le-mul-left a (le-of-lt h)) (mul-lt-mul-of-pos-right h (lt-of-le-of-lt zero-le h))

@@ -41,7 +41,7 @@ unfolding odd finite
 odd-fine d s zero k l = tt
 odd-fine d s (suc q) k l = tt
 
-odd-negative : (d : ℕ) (s : Bool) (q k l : ℕ) → negative (odd d s q k l) ≡ s
+pub odd-negative : (d : ℕ) (s : Bool) (q k l : ℕ) → negative (odd d s q k l) ≡ s
 unfolding odd negative
 odd-negative d s zero k l = refl
 odd-negative d s (suc q) k l = refl
@@ -116,7 +116,7 @@ pub nothing-below : (m : ℕ) (e : ℤ) → T (le zero64 (fin true (suc m) e)) �
 unfolding finite
 nothing-below m e h = omega (arith, le→cross zero64 (fin true (suc m) e) tt tt h, mul-pos (zero-lt-suc m) (up-pos e))
 
-not-above : (s : Bool) (e : ℤ) → T (lt zero64 (fin s zero e)) → ⊥
+pub not-above : (s : Bool) (e : ℤ) → T (lt zero64 (fin s zero e)) → ⊥
 unfolding lt
 not-above true e h = h
 not-above false e h = omega (arith, ltb→lt (0 * down e) (0 * up e * 1) h)

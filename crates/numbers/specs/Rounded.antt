@@ -50,7 +50,7 @@ pub round-up : (a b : ℕ) → 0 < b → T (le zero64 (round binary64 false a b)
 unfolding round
 round-up a b B = round-mono binary64 0 1 a b (lit< tt) B (omega arith)
 
-round-zero : (s : Bool) (b : ℕ) → 0 < b → round binary64 s 0 b ≡ fin s 0 (pos 0)
+pub round-zero : (s : Bool) (b : ℕ) → 0 < b → round binary64 s 0 b ≡ fin s 0 (pos 0)
 round-zero true b B = round-same binary64 true 0 b 0 1 B (lit< tt) (omega arith) ∙ (unfold round in refl)
 round-zero false b B = round-same binary64 false 0 b 0 1 B (lit< tt) (omega arith) ∙ (unfold round in refl)
 
@@ -70,9 +70,6 @@ pub rounded-le : {v w : Float} {p n c p′ n′ c′ : ℕ} → Rounded v p n c 
 rounded-le {v} {w} {p} {n} {c} {p′} {n′} {c′} r q C C′ h =
     rw (r .is, q .is) (round-le (r .sign) (q .sign) (r .size) c (q .size) c′ C C′
     (omega (arith, ap (λ (x : ℕ). x * c′) (r .value), ap (λ (x : ℕ). x * c) (q .value))))
-
-pub rounded-fits : {v : Float} {p n c : ℕ} → Rounded v p n c → T (fits binary64 v)
-rounded-fits {v} {p} {n} {c} r = rw (r .is) (round-fits binary64 (r .sign) (r .size) c)
 
 -- ---- a value that fits is itself, rounded
 unique : (s : Bool) (m n : ℕ) (e d : ℤ) (a c : ℕ) → 0 < c → T (fits binary64 (fin s m e)) → T (fits binary64 (fin s n d)) → m * up e * c ≡ a * down e → n * up d * c ≡ a * down d → fin s m e ≡ fin s n d

@@ -39,7 +39,7 @@ pub within-square : (n : ℕ) (x : Float) → T (finite x) → T (lt (x ⊗ x) (
 within-square n x f h = elim (big-square n x f) [ inl w ↦ w | inr k ↦ absurd (order.le-lt-clash (real (pos (2 ^ n * 2 ^ n))) (x ⊗ x) k h) ]
 
 -- p ≤ p + q for what is not below zero, an infinity too
-over-up : (p q : Float) → T (fits binary64 p) → T (le zero64 p) → T (le zero64 q) → T (le p (p ⊕ q))
+pub over-up : (p q : Float) → T (fits binary64 p) → T (le zero64 p) → T (le zero64 q) → T (le p (p ⊕ q))
 over-up nan q f h k = unfold le in absurd h
 over-up (inf true) q f h k = unfold le in absurd h
 over-up (inf false) nan f h k = unfold le in absurd k

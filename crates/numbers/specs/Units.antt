@@ -2,7 +2,7 @@
 use mathlib.Core.Path.{_≡_, refl, sym, ap, subst, _∙_}
 use mathlib.Core.Bool.{Bool, _&&_, cond}
 use Prim.Native.Nat.{ℕ, zero, suc, _+_, _-_, _*_, _/_, _%_, _^_, _≤_, _<_}
-use native.Mathlib.Nat.{mul-assoc, mul-one, le-of-eq, lt-of-lt-of-le, lt-of-le-of-lt, lt-of-not-le, not-le-of-lt, mul-lt-mul-of-pos-right, lt-of-mul-lt-mul-right, mul-div-cancel, mul-pos, div-one}
+use native.Mathlib.Nat.{mul-assoc, mul-one, le-of-eq, lt-of-lt-of-le, lt-of-le-of-lt, lt-of-not-le, not-le-of-lt, mul-lt-mul-of-pos-right, lt-of-mul-lt-mul-right, mul-div-cancel, mul-pos, mul-le-mul-right, le-of-mul-le-mul-right, eq-of-mul-eq-mul-right, div-one}
 use native.Mathlib.Decide.{decLe}
 use native.Mathlib.Omega.{arith}
 use lib.IntN.{ℤ, pos, negsuc}
@@ -13,7 +13,7 @@ use lib.Ieee.Fits.{and-l, and-r, down-pos}
 use lib.Ieee.Bits.{ofBits-toBits}
 use lib.Ieee.Exact.{HasValue}
 use Rattle.numbers.specs.Order.{negative, finite}
-use Rattle.numbers.specs.Value.{unitsOf}
+use Rattle.numbers.specs.Value.{unitsOf, Within}
 
 pub pow-le-back : (i j : ℕ) → 2 ^ i ≤ 2 ^ j → i ≤ j
 pow-le-back i j h = go (decLe i j)
@@ -70,6 +70,24 @@ units-exact s m (pos k) h = sym (mul-one (m * 2 ^ k * 2 ^ 1074 / 1) ∙ div-one 
 units-exact s m (negsuc k) h =
     let p = apart m k (fine s m k h) in
     p ∙ ap (λ (x : ℕ). x * 2 ^ suc k) (sym (ap (λ (x : ℕ). x / 2 ^ suc k) p ∙ mul-div-cancel (m * 2 ^ (1074 - suc k)) (pow-pos (suc k))))
+
+-- the units of a value a / c
+pub units-of : (v : Float) (s : Bool) (a c : ℕ) → 0 < c → T (fits binary64 v) → HasValue v s a c → (unitsOf v * c ≡ a * 2 ^ 1074) × T (finite v)
+unfolding finite
+units-of nan s a c C f h = absurd h
+units-of (inf t) s a c C f h = absurd h
+units-of (fin t m e) s a c C f h = (cross (m * up e) (down e) (unitsOf (fin t m e)) (2 ^ 1074) (down-pos e) (units-exact t m e f) (h .1), tt)
+  where
+    cross : (x d u l : ℕ) → 0 < d → x * l ≡ u * d → x * c ≡ a * d → u * c ≡ a * l
+    cross x d u l D p q = eq-of-mul-eq-mul-right d D (u * c) (a * l) (omega (arith, ap (λ (z : ℕ). z * c) p, ap (λ (z : ℕ). z * l) q))
+
+-- as many ones, as many units
+pub units-within : (n : ℕ) (s : Bool) (m : ℕ) (e : ℤ) → T (fits binary64 (fin s m e)) → Within n (fin s m e) → unitsOf (fin s m e) ≤ 2 ^ n * 2 ^ 1074
+unfolding Within
+units-within n s m e f h = scale-up (m * up e) (down e) (unitsOf (fin s m e)) (2 ^ n) (2 ^ 1074) (down-pos e) (units-exact s m e f) h
+  where
+    scale-up : (a d u w l : ℕ) → 0 < d → a * l ≡ u * d → a ≤ w * d → u ≤ w * l
+    scale-up a d u w l D e h = le-of-mul-le-mul-right {k = d} (omega (arith, mul-le-mul-right l h)) D
 
 pub own-units : (x : Float) → T (fits binary64 x) → T (finite x) → HasValue x (negative x) (unitsOf x) (2 ^ 1074)
 unfolding finite negative

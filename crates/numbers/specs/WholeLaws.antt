@@ -18,9 +18,6 @@ use Rattle.numbers.specs.Whole.{part, wholeOf}
 use Rattle.numbers.specs.Units.{short}
 use Rattle.numbers.specs.Rounded.{neg-round, own-round}
 
-clash : {X : Type 0} → true ≡ false → X
-clash e = absurd (true≢false e)
-
 abbrev limit : Float
 limit = fin false 1 (pos 53)
 
@@ -84,14 +81,14 @@ out x n = cond (negative x) (neg (ofInt binary64 (pos n))) (ofInt binary64 (pos 
 
 pub whole-toward : (x : Float) → lt (magnitude x) limit ≡ true → out x (toUnsigned 64 (magnitude x)) ≡ wholeOf false x
 unfolding magnitude negative wholeOf ofInt
-whole-toward nan h = unfold lt in clash (sym h)
-whole-toward (inf s) h = unfold lt in clash (sym h)
+whole-toward nan h = unfold lt in absurd (true≢false (sym h))
+whole-toward (inf s) h = unfold lt in absurd (true≢false (sym h))
 whole-toward (fin s m e) h = signed s (toUnsigned 64 (fin false m e)) ∙ ap (λ (n : ℕ). round binary64 s n 1) (counted m e h)
 
 pub whole-away : (x : Float) → lt (magnitude x) limit ≡ true → lt (ofInt binary64 (pos (toUnsigned 64 (magnitude x)))) (magnitude x) ≡ true → out x (toUnsigned 64 (magnitude x) + 1) ≡ wholeOf true x
 unfolding magnitude negative wholeOf ofInt
-whole-away nan h k = unfold lt in clash (sym h)
-whole-away (inf s) h k = unfold lt in clash (sym h)
+whole-away nan h k = unfold lt in absurd (true≢false (sym h))
+whole-away (inf s) h k = unfold lt in absurd (true≢false (sym h))
 whole-away (fin s m e) h k =
     let a = m * up e in
     let d = down e in
@@ -100,8 +97,8 @@ whole-away (fin s m e) h k =
 
 pub whole-level : (x : Float) → lt (magnitude x) limit ≡ true → lt (ofInt binary64 (pos (toUnsigned 64 (magnitude x)))) (magnitude x) ≡ false → out x (toUnsigned 64 (magnitude x)) ≡ wholeOf true x
 unfolding magnitude negative wholeOf ofInt
-whole-level nan h k = unfold lt in clash (sym h)
-whole-level (inf s) h k = unfold lt in clash (sym h)
+whole-level nan h k = unfold lt in absurd (true≢false (sym h))
+whole-level (inf s) h k = unfold lt in absurd (true≢false (sym h))
 whole-level (fin s m e) h k =
     let a = m * up e in
     let d = down e in
@@ -117,10 +114,10 @@ pub whole-large : (away : Bool) (x : Float) → T (fits binary64 x) → lt (magn
 unfolding lt magnitude wholeOf
 whole-large away nan f h = refl
 whole-large away (inf s) f h = refl
-whole-large away (fin s zero e) f h = clash (sym (lt-ltb (0 * up e * 1) (1 * 2 ^ 53 * down e) (omega (arith, zero-mul (up e), down-pos e))) ∙ h)
+whole-large away (fin s zero e) f h = absurd (true≢false (sym (lt-ltb (0 * up e * 1) (1 * 2 ^ 53 * down e) (omega (arith, zero-mul (up e), down-pos e))) ∙ h))
 whole-large away (fin s (suc m) (pos k)) f h = own-round s (suc m) (pos k) f ∙ ap (λ (n : ℕ). round binary64 s n 1) (sym (no-part away (suc m * 2 ^ k)))
 whole-large away (fin s (suc m) (negsuc k)) f h =
-    clash (sym (lt-ltb (suc m * 1 * 1) (1 * 2 ^ 53 * 2 ^ suc k) (omega (arith, short s (suc m) (negsuc k) f, pow-pos (suc k)))) ∙ h)
+    absurd (true≢false (sym (lt-ltb (suc m * 1 * 1) (1 * 2 ^ 53 * 2 ^ suc k) (omega (arith, short s (suc m) (negsuc k) f, pow-pos (suc k)))) ∙ h))
 
 -- ---- nothing is rounded: the value of `wholeOf` is the whole number
 at-most : (away : Bool) (a d : ℕ) → 0 < d → a < 2 ^ 53 * d → part away a d ≤ 2 ^ 53
@@ -148,8 +145,8 @@ unfolding lt magnitude
 in-range a x e h = subst (λ (v : Float). T (lt (fin true 1 (pos 0)) v) × T (lt v (fin false 1 (pos 64)))) (sym e) (go x (ap (λ (v : Float). lt v limit) (sym e) ∙ h))
   where
     go : (x : Float) → lt (magnitude x) limit ≡ true → T (lt (fin true 1 (pos 0)) (magnitude x)) × T (lt (magnitude x) (fin false 1 (pos 64)))
-    go nan h = clash (sym h)
-    go (inf s) h = clash (sym h)
+    go nan h = absurd (true≢false (sym h))
+    go (inf s) h = absurd (true≢false (sym h))
     go (fin s m e) h =
         let l : m * up e * 1 < 1 * 2 ^ 53 * down e = ltb-true (m * up e * 1) (1 * 2 ^ 53 * down e) h in
         (lt→ltb 0 (1 * 1 * down e + m * up e * 1) (omega (arith, down-pos e)), lt→ltb (m * up e * 1) (1 * 2 ^ 64 * down e) (omega arith))
@@ -159,8 +156,8 @@ unfolding magnitude
 count-lt a x e h = subst (λ (v : Float). toUnsigned 64 v < 2 ^ 53) (sym e) (go x (ap (λ (v : Float). lt v limit) (sym e) ∙ h))
   where
     go : (x : Float) → lt (magnitude x) limit ≡ true → toUnsigned 64 (magnitude x) < 2 ^ 53
-    go nan h = unfold lt in clash (sym h)
-    go (inf s) h = unfold lt in clash (sym h)
+    go nan h = unfold lt in absurd (true≢false (sym h))
+    go (inf s) h = unfold lt in absurd (true≢false (sym h))
     go (fin s m e) h = lt-of-le-of-lt (le-of-eq (counted m e h)) (under m e h)
 
 -- ---- what each return has

@@ -14,7 +14,6 @@ use mir.Val.{SFits, toZ, ofZ}
 use borrow.Author.Tests.{le-ltb, lt-ltb, eq-eqb, ne-eqb}
 use Rattle.seqs.specs.Signed.{natAbs-add, sum-small, back}
 use Rattle.geom.specs.declared.point.P.{P}
-use Rattle.geom.specs.Point.{point}
 use Rattle.geom.specs.Outline.{points, cut}
 use Rattle.geom.specs.OutlineLaws.{cornerAt, points-next, points-end, points-length, points-last, points-part, cut-next, cut-none}
 use Rattle.outlines.specs.Winding.{edge, edges, ring, winding}

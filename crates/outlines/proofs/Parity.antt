@@ -10,19 +10,16 @@ use mir.Syntax.{w64}
 use mir.Val.{SFits, ofZ}
 use borrow.Author.Tests.{ne-eqb}
 use Rattle.seqs.specs.Signed.{small}
+use Rattle.numbers.specs.CastLaws.{abs-opposite}
 
 pub zero-bits : (z : ℤ) → SFits w64 z → not (eqb (ofZ w64 z) 0) ≡ not (eqb (natAbs z) 0)
 zero-bits (pos a) h = refl
 zero-bits (negsuc a) h = ap not (ne-eqb (2 ^ 64 - suc a) 0 (λ e. omega (arith, h .sfits)) ∙ sym (ne-eqb (suc a) 0 (λ e. omega arith)))
 
-neg-abs : (m : ℕ) → natAbs (negℤ (pos m)) ≡ m
-neg-abs zero = refl
-neg-abs (suc m) = refl
-
 -- halves fit
 pub quot-fits : (z : ℤ) → SFits w64 z → SFits w64 (quotZ z (pos 2))
 quot-fits (pos a) h = small (pos (a / 2)) (a / 2) (omega arith) (omega (arith, h .sfits))
-quot-fits (negsuc a) h = small (negℤ (pos (suc a / 2))) (suc a / 2) (omega (arith, neg-abs (suc a / 2))) (omega (arith, h .sfits))
+quot-fits (negsuc a) h = small (negℤ (pos (suc a / 2))) (suc a / 2) (omega (arith, abs-opposite (suc a / 2))) (omega (arith, h .sfits))
 
 odd : (m : ℕ) → m < 2 → (not (eqb (ofZ w64 (pos m)) 0) ≡ eqb m 1) × (not (eqb (ofZ w64 (negℤ (pos m))) 0) ≡ eqb m 1)
 odd zero h = (refl, refl)

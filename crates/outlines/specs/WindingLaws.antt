@@ -11,7 +11,7 @@ use lib.Ieee.{Float, lt, le}
 use borrow.Author.Tests.{eqb-true}
 use Rattle.numbers.specs.Num.{zero64}
 use Rattle.numbers.specs.Laws.{holds, le-lt-clash}
-use Rattle.seqs.specs.Signed.{natAbs-add}
+use Rattle.seqs.specs.Signed.{natAbs-add, cond-abs}
 use Rattle.seqs.specs.Tests.{refute}
 use Rattle.geom.specs.declared.point.P.{P}
 use Rattle.geom.specs.Point.{minus, cross}
@@ -22,16 +22,12 @@ use Rattle.outlines.specs.Runs.{chain, lows, oneSide}
 
 -- ---- sizes
 
-cond-small : (b : Bool) (x y : ℤ) (n : ℕ) → natAbs x ≤ n → natAbs y ≤ n → natAbs (cond b x y) ≤ n
-cond-small true x y n h k = h
-cond-small false x y n h k = k
-
 pub edge-small : (a b p : P) → natAbs (edge a b p) ≤ 1
 unfolding edge
 edge-small a b p =
-    cond-small (le (a .y) (p .y)) _ _ 1
-    (cond-small (lt (p .y) (b .y) && lt zero64 (cross (minus b a) (minus p a))) (pos 1) (pos 0) 1 (omega arith) (omega arith))
-    (cond-small (le (b .y) (p .y) && lt (cross (minus b a) (minus p a)) zero64) (negsuc 0) (pos 0) 1 (omega arith) (omega arith))
+    cond-abs (le (a .y) (p .y)) _ _ 1
+    (cond-abs (lt (p .y) (b .y) && lt zero64 (cross (minus b a) (minus p a))) (pos 1) (pos 0) 1 (omega arith) (omega arith))
+    (cond-abs (le (b .y) (p .y) && lt (cross (minus b a) (minus p a)) zero64) (negsuc 0) (pos 0) 1 (omega arith) (omega arith))
 
 pub edges-small : (p a : P) (l : List P) → natAbs (edges p a l) ≤ length l
 unfolding edges
@@ -45,7 +41,7 @@ chain-small p (a ∷ l) = omega (arith, edges-small p a l)
 
 pub ring-small : (p : P) (l : List P) → natAbs (ring p l) ≤ length l
 unfolding ring
-ring-small p l = cond-small (ltb (length l) 3) (pos 0) _ (length l) (omega arith) (edges-small p _ l)
+ring-small p l = cond-abs (ltb (length l) 3) (pos 0) _ (length l) (omega arith) (edges-small p _ l)
 
 pub cut-small : (p : P) (a : ℕ) (ends : List ℕ) (n : ℕ) (l : List P) → rising a ends n ≡ true → natAbs (winding (cut a ends l) p) ≤ n - a
 unfolding winding cut

@@ -3,6 +3,7 @@
 ghost use mathlib.Core.Path.{_≡_};
 ghost use mathlib.Core.Bool.{true, false};
 ghost use Prim.Native.Nat.{_+_, _<_, min};
+ghost use lib.ListN.{length, set};
 ghost use lib.Ieee.{Float, lt, le};
 ghost use Rattle.numbers.specs.Value.{Within};
 ghost use Rattle.seqs.specs.Lists.{All};
@@ -94,6 +95,15 @@ fn height_of(l: &[f64]) -> Height
     }
 }
 
+fn put_height(t: &mut [f64], to: usize, h: Height)
+    requires { ⌜ to + 2 < length (now t) ⌝ }
+    ensures { λ _. ⌜ now (t .exit) ≡ set (set (set (now (t .entry)) to (h .lo)) (to + 1) (h .hi)) (to + 2) (h .right) ⌝ }
+{
+    t[to] = h.lo;
+    t[to + 1] = h.hi;
+    t[to + 2] = h.right;
+}
+
 // Where the corners of a block that starts at k end, of n.
 fn block_end(k: usize, n: usize) -> usize
     requires { ⌜ k < n ⌝ }
@@ -122,9 +132,7 @@ fn block_heights(corners: &[f64], t: &mut [f64])
         let s = 2 * k;
         let e = 2 * block_end(k, n);
         let h = height_of(&corners[s..e]);
-        t[to] = h.lo;
-        t[to + 1] = h.hi;
-        t[to + 2] = h.right;
+        put_height(t, to, h);
         k += 8;
     }
 }
@@ -145,9 +153,7 @@ fn ring_heights(corners: &[f64], ends: &[usize], t: &mut [f64])
         let from = 2 * a;
         let end = 2 * e;
         let h = height_of(&corners[from..end]);
-        t[to] = h.lo;
-        t[to + 1] = h.hi;
-        t[to + 2] = h.right;
+        put_height(t, to, h);
         a = e;
         k += 1;
     }

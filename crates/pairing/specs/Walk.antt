@@ -4,7 +4,7 @@ use mathlib.Core.Bool.{Bool, _&&_, cond}
 use mathlib.Core.List.{List, [], _∷_, _++_}
 use lib.Dec.{ltb}
 use lib.IntN.{pos}
-use lib.ListN.{length, drop}
+use lib.ListN.{drop}
 use lib.Ieee.{Float, lt}
 use Rattle.numbers.specs.Num.{_⊖_, _⊘_, real, zero64}
 use Rattle.geom.specs.declared.point.P.{P}

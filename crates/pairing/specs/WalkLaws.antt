@@ -1,10 +1,10 @@
 -- What is proved of the walk: its turns, and that it comes to the places. Assumes nothing.
 use Prim.Native.Nat.{ℕ, zero, suc, _+_, _-_, _≤_, _<_}
 use native.Mathlib.Omega.{arith}
-use mathlib.Core.Path.{_≡_, refl, sym, ap, _∙_}
+use mathlib.Core.Path.{_≡_, refl, _∙_}
 use mathlib.Core.Bool.{Bool, true, false, _&&_, cond}
 use mathlib.Core.Logic.{inl, inr}
-use mathlib.Core.List.{List, [], _∷_, _++_}
+use mathlib.Core.List.{List, [], _∷_}
 use lib.Dec.{ltb}
 use lib.ListN.{length, drop, length-append}
 use lib.Ieee.{Float, lt}
@@ -15,7 +15,7 @@ use Rattle.geom.specs.declared.point.P.{P}
 use Rattle.geom.specs.Outline.{points}
 use Rattle.geom.specs.OutlineLaws.{cornerAt, points-next, points-end}
 use Rattle.polyline.specs.Line.{shortest}
-use Rattle.satinrules.specs.Pairs.{origin, grows, kept, centre, centresFrom, totalOf, placeAt, inWindow, windows, places}
+use Rattle.satinrules.specs.Pairs.{origin, grows, kept, centre, centresFrom, placeAt, inWindow, windows, places}
 use Rattle.pairing.specs.declared.places.Pass.{Pass}
 use Rattle.pairing.specs.declared.places.Walk.{Walk}
 use Rattle.pairing.specs.declared.places.Found.{Found}

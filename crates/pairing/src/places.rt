@@ -1,7 +1,7 @@
 // The places of the pairs, handed out one at a time: no slice is needed to count them.
 ghost use mathlib.Core.Path.{_≡_};
 ghost use mathlib.Core.Bool.{true, false, cond};
-ghost use mathlib.Core.List.{List, [], _∷_};
+ghost use mathlib.Core.List.{List, _∷_};
 ghost use Prim.Native.Nat.{_+_, _-_, _^_, _<_};
 ghost use lib.ListN.{length, drop};
 ghost use lib.Ieee.{Float};

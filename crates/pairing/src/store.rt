@@ -1,14 +1,12 @@
 // The running lengths of both rails, laid once for a call, and by them the pairs of a pass: four numbers each, at the front of the working slice.
 ghost use mathlib.Core.Path.{_≡_};
-ghost use mathlib.Core.List.{[], _∷_, _++_, map};
-ghost use Prim.Native.Nat.{_+_, _*_, _/_, _^_, _<_, _≤_};
+ghost use mathlib.Core.List.{[], _∷_};
+ghost use Prim.Native.Nat.{_+_, _*_, _/_, _≤_};
 ghost use lib.ListN.{length, take};
 ghost use Rattle.seqs.specs.Slices.{put};
 ghost use Rattle.geom.specs.Outline.{points};
 ghost use Rattle.geom.specs.Sewing.{flat};
-ghost use Rattle.satinrules.specs.Arc.{lengths, railAt};
-ghost use Rattle.satinrules.specs.Pairs.{pairAt};
-ghost use Rattle.satinrules.specs.Calls.{railsOf, bothPoints};
+ghost use Rattle.satinrules.specs.Arc.{railAt};
 ghost use Rattle.pairing.specs.Walk.{walkPlaces};
 ghost use Rattle.pairing.specs.Store.{Laid, Sound, storedPairs};
 use crate::places::Pass;

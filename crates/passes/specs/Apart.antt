@@ -10,17 +10,9 @@ use borrow.Author.Tests.{lt-ltb, le-ltb}
 use lib.Ieee.{Float, nan, inf, fin, binary64, up, down, round, sum, neg, add, sub, mul}
 use Rattle.numbers.specs.Num.{_⊕_, _⊖_, _⊗_}
 use Rattle.numbers.specs.Rounded.{neg-round}
-use Rattle.numbers.specs.Laws.{⊕-comm}
+use Rattle.numbers.specs.Laws.{⊕-comm, neg-neg}
 use Rattle.geom.specs.declared.point.P.{P}
 use Rattle.geom.specs.Point.{minus, len}
-
-neg-neg : (x : Float) → neg (neg x) ≡ x
-unfolding neg
-neg-neg nan = refl
-neg-neg (inf true) = refl
-neg-neg (inf false) = refl
-neg-neg (fin true m e) = refl
-neg-neg (fin false m e) = refl
 
 -- y is x, or x with its sign turned
 abbrev Turned : Float → Float → Type 0

@@ -1,25 +1,23 @@
 -- What is proved of the passes: a pass by its pairs, and what each of them sews. Assumes nothing.
 use Prim.Native.Nat.{ℕ, zero, suc, _+_, _-_, _*_, _/_, _%_, _≤_, _<_}
 use native.Mathlib.Omega.{arith}
-use mathlib.Core.Path.{_≡_, refl, sym, ap, _∙_}
-use mathlib.Core.Bool.{Bool, true, false, not, cond}
-use mathlib.Core.Logic.{inl, inr}
-use mathlib.Core.List.{List, [], _∷_, _++_, map, reverse}
+use mathlib.Core.Path.{_≡_, refl, ap, _∙_}
+use mathlib.Core.Bool.{Bool, true, false, cond}
+use mathlib.Core.List.{List, [], _∷_, _++_, map}
 use lib.Dec.{eqb}
 use lib.ListN.{length, take, drop, getD, length-reverse}
 use lib.Ieee.{Float, nan}
 use borrow.Author.Tests.{eq-eqb, ne-eqb, eqb-true, eqb-false}
 use Rattle.seqs.specs.Slices.{put}
-use Rattle.seqs.specs.Tests.{either}
 use Rattle.seqs.specs.Front.{Front, front-at, next, none}
 use Rattle.seqs.specs.Wrote.{put-room}
-use Rattle.seqs.specs.Reverse.{getD-reverse}
+use Rattle.seqs.specs.Reverse.{getD-reverse, place-below}
 use Rattle.geom.specs.declared.point.P.{P}
 use Rattle.geom.specs.Point.{point}
 use Rattle.geom.specs.Outline.{points}
-use Rattle.geom.specs.OutlineLaws.{cornerAt, points-length, points-at}
+use Rattle.geom.specs.OutlineLaws.{points-length, points-at}
 use Rattle.geom.specs.Sewing.{flat}
-use Rattle.geom.specs.SewingLaws.{flat-length, points-flat, points-room, points-put}
+use Rattle.geom.specs.SewingLaws.{flat-length, points-room, points-put}
 use Rattle.satinrules.specs.declared.Pair.{Pair}
 use Rattle.satinrules.specs.Column.{middle, inset, alternate, turnedIf}
 use Rattle.satinrules.specs.Calls.{bothPoints}
@@ -76,17 +74,13 @@ module _ (t : Thread) where
   thread-at k (q ∷ qs) zero z y h = let e : k + 0 ≡ k = omega arith in rw e
   thread-at k (q ∷ qs) (suc j) z y h = let e : k + 1 + j ≡ k + suc j = omega arith in rw e at (thread-at (k + 1) qs j z y (omega arith))
 
-turned-length : (l : List P) (back : Bool) → length (turnedIf back l) ≡ length l
+pub turned-length : (l : List P) (back : Bool) → length (turnedIf back l) ≡ length l
 turned-length l true = length-reverse l
 turned-length l false = refl
 
 turned-at : (l : List P) (back : Bool) (r : ℕ) (z : P) → r < length l → getD (turnedIf back l) r z ≡ getD l (cond back (length l - 1 - r) r) z
 turned-at l true r z h = getD-reverse l r z h
 turned-at l false r z h = refl
-
-place-below : (back : Bool) (r n : ℕ) → r < n → cond back (n - 1 - r) r < n
-place-below true r n h = omega arith
-place-below false r n h = h
 
 -- the pass over the pairs of a slice
 abbrev pub passOver : List Float → Thread → Bool → List P

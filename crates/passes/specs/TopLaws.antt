@@ -1,7 +1,7 @@
 -- What is proved of the top's stitches over pairs that stand in a slice. Assumes nothing.
-use Prim.Native.Nat.{ℕ, zero, suc, _+_, _-_, _*_, _/_, _≤_, _<_}
+use Prim.Native.Nat.{ℕ, _+_, _*_, _≤_, _<_}
 use native.Mathlib.Omega.{arith}
-use mathlib.Core.Path.{_≡_, refl, sym, ap, _∙_}
+use mathlib.Core.Path.{_≡_, refl, ap, _∙_}
 use mathlib.Core.Bool.{Bool, true, false, not, _&&_}
 use mathlib.Core.List.{List, [], _∷_, _++_}
 use lib.ListN.{length, take, drop, getD}
@@ -17,7 +17,6 @@ use Rattle.seqs.specs.Slices.{put}
 use Rattle.seqs.specs.Front.{Front, front-at, front-kept, next, none}
 use Rattle.seqs.specs.Wrote.{put-room}
 use Rattle.geom.specs.declared.point.P.{P}
-use Rattle.geom.specs.Point.{point}
 use Rattle.geom.specs.Outline.{points}
 use Rattle.geom.specs.Sewing.{flat}
 use Rattle.geom.specs.SewingLaws.{flat-length, points-room, points-put}

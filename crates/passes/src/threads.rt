@@ -1,15 +1,12 @@
 // The underlay's points, one for each pair, on or back along the column.
 ghost use mathlib.Core.Path.{_≡_};
 ghost use mathlib.Core.Bool.{cond};
-ghost use mathlib.Core.List.{[], _∷_};
 ghost use Prim.Native.Nat.{_+_, _-_, _*_, _/_, _<_, _≤_};
 ghost use lib.ListN.{length};
 ghost use Rattle.seqs.specs.Slices.{put};
-ghost use Rattle.geom.specs.Point.{len, norm};
 ghost use Rattle.geom.specs.Outline.{points};
-ghost use Rattle.geom.specs.OutlineLaws.{cornerAt};
 ghost use Rattle.geom.specs.Sewing.{flat};
-ghost use Rattle.satinrules.specs.Column.{middle, inset, turnedIf};
+ghost use Rattle.satinrules.specs.Column.{inset, turnedIf};
 ghost use Rattle.passes.specs.Threads.{pairIn, pairsIn, pointOf, threadOf};
 use geom::P;
 use geom::sewing::corner;
@@ -36,17 +33,6 @@ pub fn pair_in(s: &[f64], i: usize) -> Pair
     Pair { a, b }
 }
 
-// The direction of v, whose length is l.
-fn towards(v: P, l: f64) -> P
-    requires { ⌜ l ≡ len v ⌝ }
-    ensures { λ r. ⌜ r ≡ norm v ⌝ }
-{
-    if l > 1e-12 {
-        return v.times(1.0 / l);
-    }
-    P { x: 0.0, y: 0.0 }
-}
-
 // Both points so far inside the rails. From b to a it is as far as from a to b: one root is enough.
 fn inset(q: Pair) -> Pair
     ensures { λ r. ⌜ r ≡ inset q ⌝ }
@@ -56,8 +42,8 @@ fn inset(q: Pair) -> Pair
     let v = a.minus(b);
     let l = v.len();
     let d = smaller(Satin::UNDERLAY_INSET, l * 0.25);
-    let p = a.plus(towards(b.minus(a), l).times(d));
-    let r = b.plus(towards(v, l).times(d));
+    let p = a.plus(b.minus(a).towards(l).times(d));
+    let r = b.plus(v.towards(l).times(d));
     Pair { a: p, b: r }
 }
 

@@ -2,15 +2,15 @@
 use Prim.Native.Nat.{ℕ, _*_, _/_, _≤_, _<_}
 use native.Mathlib.Omega.{arith}
 use native.Mathlib.Nat.{mul-assoc, mul-comm, mul-left-comm, mul-le-mul}
-use mathlib.Core.Path.{_≡_, sym, ap, _∙_, subst}
-use mathlib.Core.Bool.{Bool, true, false}
+use mathlib.Core.Path.{_≡_, ap, _∙_}
+use mathlib.Core.Bool.{true, false}
 use mathlib.Core.List.{List}
 use lib.ListN.{length}
 use lib.Ieee.{Float}
 use Rattle.geom.specs.declared.point.P.{P}
 use Rattle.outlines.specs.declared.rule.FillRule.{FillRule}
 use Rattle.rules.specs.Calls.{sewnPoints}
-use Rattle.geom.specs.Outline.{points, rings, Layout}
+use Rattle.geom.specs.Outline.{points, rings}
 use Rattle.limits.specs.Limits.{mostCells, goodOutline}
 use Rattle.limits.specs.LimitsLaws.{outline-layout}
 use Rattle.patterns_rules.specs.declared.Grid.{Grid}

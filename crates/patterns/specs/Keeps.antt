@@ -1,39 +1,31 @@
 -- Of an accepted outline with a corner, and an accepted cell, no cast of cross stitch loses anything: the ends of the grid are the floors and ceilings, whole numbers of at most 2 ^ 17 in size. Assumes nothing.
-use Prim.Native.Nat.{ℕ, _+_, _^_, _≤_, _<_}
+use Prim.Native.Nat.{ℕ, _<_}
 use native.Mathlib.Omega.{arith}
-use mathlib.Core.Path.{_≡_, refl, sym, ap, _∙_}
-use mathlib.Core.Bool.{Bool, true, false, _&&_}
+use mathlib.Core.Path.{_≡_}
+use mathlib.Core.Bool.{true, false, _&&_}
 use mathlib.Core.List.{List, [], _∷_}
-use lib.Dec.{T, lit≤}
+use lib.Dec.{lit≤}
 use lib.IntN.{pos}
 use lib.ListN.{length}
 use lib.Ieee.{Float, nan, inf, fin, binary64, le, isNan, ofInt, round}
 use lib.Ieee.Fits.{div-fits}
 use Rattle.numbers.specs.Num.{_⊘_, real}
-use Rattle.numbers.specs.Order.{finite, magnitude, before, smaller, larger}
+use Rattle.numbers.specs.Order.{before, smaller, larger}
 use Rattle.numbers.specs.Whole.{floor, ceil}
 use Rattle.numbers.specs.Value.{Within, AtLeast, IsWhole}
-use Rattle.numbers.specs.Laws.{smaller-has, larger-has, within-finite, within-le, within-between, within-div, within-real, atleast-le, floor-signed, ceil-signed, holds}
+use Rattle.numbers.specs.Laws.{smaller-has, larger-has, within-finite, within-between, within-div, within-real, atleast-le, floor-signed, ceil-signed, holds}
 use Rattle.seqs.specs.Lists.{fold, All}
 use Rattle.seqs.specs.Tests.{and-both}
 use Rattle.geom.specs.declared.point.P.{P}
 use Rattle.geom.specs.Outline.{points, rings}
-use Rattle.limits.specs.Limits.{largest, within, goodNumber, goodNumbers, goodCell, goodOutline}
-use Rattle.limits.specs.LimitsLaws.{outline-layout}
+use Rattle.limits.specs.Limits.{within, goodNumber, goodNumbers, goodCell, goodOutline}
+use Rattle.limits.specs.LimitsLaws.{outline-layout, good-within}
 use Rattle.patterns_rules.specs.declared.Bounds.{Bounds}
 use Rattle.patterns_rules.specs.Patterns.{nowhere, widen, bounds, firstCell, pastCell}
 use Rattle.cross.specs.Cells.{boundsOf}
 use Rattle.cross.specs.BoundLaws.{bounds-are}
 
 -- ---- an accepted number and an accepted cell
-
-largest-within : Within 17 largest
-unfolding largest
-largest-within = within-real 17 (pos 100000) (lit≤ tt) (lit≤ tt)
-
-good-within : (x : Float) → goodNumber x ≡ true → Within 17 x
-unfolding goodNumber
-good-within x h = within-le 17 x largest (holds (and-both (finite x) (le (magnitude x) largest) h .1)) largest-within
 
 one-least : AtLeast 0 (real (pos 1))
 unfolding AtLeast ofInt round

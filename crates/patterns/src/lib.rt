@@ -8,6 +8,7 @@ mod badge;
 
 use badge::on_grid;
 use cross::grid_of;
+use limits::MOST_CELLS;
 use limits::good_cell;
 use limits::good_line;
 use limits::good_numbers;
@@ -15,7 +16,6 @@ use limits::good_outline;
 use outlines::FillRule;
 use patterns_rules::Bounds;
 use patterns_rules::Lines;
-use patterns_rules::MOST_CELLS;
 use refusal::LAYOUT;
 use refusal::NUMBER;
 use refusal::SETTING;

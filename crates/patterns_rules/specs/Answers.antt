@@ -5,7 +5,7 @@ use mathlib.Core.List.{List}
 use lib.Dec.{leb, eqb}
 use lib.ListN.{length}
 use lib.Ieee.{Float}
-use Rattle.refusal.specs.Refusal.{DONE, LAYOUT, NUMBER, SETTING, SIZE, ROOM, Answer, unless, _then_, answer}
+use Rattle.refusal.specs.Refusal.{DONE, LAYOUT, NUMBER, SETTING, SIZE, ROOM, Answer, unless, answer, _then_}
 use Rattle.refusal.specs.Sewn.{output}
 use Rattle.geom.specs.declared.point.P.{P}
 use Rattle.outlines.specs.declared.rule.FillRule.{FillRule}

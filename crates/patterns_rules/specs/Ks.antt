@@ -3,7 +3,7 @@ use Prim.Native.Nat.{ℕ}
 use mathlib.Core.Path.{_≡_, refl}
 use mathlib.Core.List.{List, [], _∷_}
 use lib.IntN.{pos}
-use lib.Ieee.{Float, lt, le, eq, neg, add, sub, mul, div, ofInt, round, toSigned, toUnsigned, odd, size, isNan}
+use lib.Ieee.{lt, le, eq, neg, add, sub, mul, div, ofInt, round, toSigned, toUnsigned, odd, size, isNan}
 use Rattle.numbers.specs.Num.{real, literal}
 use Rattle.numbers.specs.Order.{negative, finite, before, smaller, larger}
 use Rattle.numbers.specs.Whole.{wholeOf, floor, ceil}

@@ -1,9 +1,9 @@
 -- Lines in two output slices: their counts, and the room for them. Assumes nothing.
-use Prim.Native.Nat.{ℕ, suc, _+_, _*_, _/_, _≤_, _<_}
+use Prim.Native.Nat.{ℕ, _+_, _/_, _≤_, _<_}
 use native.Mathlib.Omega.{arith}
-use mathlib.Core.Path.{_≡_, refl, sym, ap, _∙_}
+use mathlib.Core.Path.{_≡_, ap, _∙_}
 use mathlib.Core.List.{List, [], _∷_, _++_}
-use mathlib.Core.Bool.{Bool, true, false, _&&_}
+use mathlib.Core.Bool.{and-false}
 use lib.Dec.{leb}
 use lib.ListN.{length, length-append}
 use borrow.Author.Tests.{le-leb, lt-leb}
@@ -16,11 +16,6 @@ use Rattle.geom.specs.SewingLaws.{flat-length}
 use Rattle.rules.specs.Calls.{sewnPoints, sewnEnds}
 use Rattle.patterns_rules.specs.Answers.{roomFor}
 
-pub ends-length : (n : ℕ) (ls : List (List P)) → length (sewnEnds n ls) ≡ length ls
-unfolding sewnEnds
-ends-length n [] = refl
-ends-length n (l ∷ ls) = ap suc (ends-length (n + length l) ls)
-
 pub points-append : (ls ms : List (List P)) → sewnPoints (ls ++ ms) ≡ sewnPoints ls ++ sewnPoints ms
 unfolding sewnPoints
 points-append ls ms = each-append (λ l. l) ls ms
@@ -32,10 +27,6 @@ ends-append n (l ∷ ls) ms =
     let e : n + length l + length (each (λ (l : List P). l) ls) ≡ n + length (l ++ each (λ (l : List P). l) ls) = omega (arith, length-append l (each (λ (l : List P). l) ls)) in
     ap (λ r. (n + length l) ∷ r) (ends-append (n + length l) ls ms ∙ rw e)
 
-and-no : (b : Bool) → (b && false) ≡ false
-and-no true = refl
-and-no false = refl
-
 -- the points compared with half the slice, the lines with the other
 module _ (ls : List (List P)) (points ends : ℕ) where
   pub no-room-points : points / 2 < length (sewnPoints ls) → roomFor ls points ends ≡ ROOM
@@ -44,7 +35,7 @@ module _ (ls : List (List P)) (points ends : ℕ) where
 
   pub no-room-lines : ends < length ls → roomFor ls points ends ≡ ROOM
   unfolding roomFor
-  no-room-lines h = rw (lt-leb (length ls) ends h, and-no (leb (length (flat (sewnPoints ls))) points))
+  no-room-lines h = rw (lt-leb (length ls) ends h, and-false (leb (length (flat (sewnPoints ls))) points))
 
   module _ (h : length (sewnPoints ls) ≤ points / 2) where
     pub points-fit : length (flat (sewnPoints ls)) ≤ points

@@ -1,9 +1,6 @@
 // What bounds, clipping and cross stitch are, as definitions: document 01's rules and the source's patterns.rs in
 // specs/Patterns.antt. Here are the records that travel by value.
 
-// SIZE: the most cells either way.
-pub const MOST_CELLS: usize = 4096;
-
 // The least box around an outline: the source's `lo` is (left, top), its `hi` is (right, bottom).
 pub struct Bounds {
     pub left: f64,

@@ -22,3 +22,9 @@ pub struct Sewn {
     pub answer: u64,
     pub points: u64,
 }
+
+// The same of a call that writes bytes.
+pub struct Written {
+    pub answer: u64,
+    pub bytes: u64,
+}

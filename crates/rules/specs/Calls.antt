@@ -1,10 +1,10 @@
 -- The two calls of a fill: what a call answers and leaves in each slice, by Fill's refusal. Definitions only.
 use Prim.Native.Nat.{ℕ, _+_, _*_}
 use mathlib.Core.Bool.{Bool, _&&_, cond}
-use mathlib.Core.List.{List, [], _∷_, _++_, map}
+use mathlib.Core.List.{List, [], _∷_, map}
 use lib.Dec.{leb, eqb}
 use lib.IntN.{ℤ}
-use lib.ListN.{length, drop, replicate}
+use lib.ListN.{length, replicate}
 use lib.Ieee.{Float}
 use Rattle.refusal.specs.Refusal.{DONE}
 use Rattle.seqs.specs.Lists.{each}
@@ -15,15 +15,11 @@ use Rattle.rules.specs.declared.Settings.{Settings}
 use Rattle.rules.specs.declared.Entry.{Entry}
 use Rattle.rules.specs.Fill.{rowList, tatami, refusal}
 
--- ---- what a call leaves, by its answer n
+-- ---- what a call leaves, by its answer n: an output slice is `output` of refusal/specs/Sewn
 
 -- a count: every refusal returns zero counts
 abbrev pub counted : ℕ → ℕ → ℕ
 counted n c = cond (eqb n DONE) c 0
-
--- an output slice: after 0 the answer at the front and the rest unchanged; a refusal changes none
-abbrev pub written : {A : Type 0} → ℕ → List A → List A → List A
-written n answer out = cond (eqb n DONE) (answer ++ drop (length answer) out) out
 
 -- a working slice: all zero after 0, 6 and 7, unchanged after 1 to 5
 abbrev pub worked : {A : Type 0} → ℕ → A → List A → List A

@@ -66,7 +66,7 @@ total-same : {A : Type 0} (n : ℕ) (l : List A) → total (λ a. n) l ≡ n * l
 total-same n [] = omega arith
 total-same n (a ∷ l) = omega (arith, total-same n l)
 
-ring-edges : (g : Settings) (ring : List P) → length (each keptSide (sides (turned g ring))) ≤ length ring
+pub ring-edges : (g : Settings) (ring : List P) → length (each keptSide (sides (turned g ring))) ≤ length ring
 unfolding turned
 ring-edges g ring =
     let l = map (λ p. rotate p (g .cosine) (neg (g .sine))) ring in

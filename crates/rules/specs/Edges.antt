@@ -4,7 +4,7 @@ use mathlib.Core.Bool.{Bool, true, false, not, cond}
 use mathlib.Core.List.{List, [], _∷_, map}
 use mathlib.Core.Logic.{inl, inr}
 use Prim.Native.Nat.{ℕ, _+_, _-_, _*_, _^_, _≤_, _<_}
-use native.Mathlib.Nat.{le-trans, le-of-eq, le-of-lt, lt-irrefl, lt-of-le-of-lt, lt-of-lt-of-le, eq-zero-or-pos, zero-mul, mul-pos, mul-assoc, mul-le-mul, mul-le-mul-right, mul-le-mul-left, le-of-mul-le-mul-right}
+use native.Mathlib.Nat.{le-trans, le-of-eq, le-of-lt, lt-irrefl, lt-of-le-of-lt, lt-of-lt-of-le, zero-mul, mul-pos, mul-assoc, mul-le-mul, mul-le-mul-right, mul-le-mul-left, le-of-mul-le-mul-right, mul-right-comm, pos-of-ne-zero}
 use native.Mathlib.Omega.{arith}
 use lib.Dec.{T, leb, leb→le, nleb→lt, lit<, lit≤}
 use borrow.Author.Tests.{ne-eqb}
@@ -19,7 +19,7 @@ use Rattle.numbers.specs.Order.{finite, magnitude}
 use Rattle.numbers.specs.Value.{Within, AtLeast, unitsOf}
 use Rattle.numbers.specs.Units.{units-exact}
 use Rattle.numbers.specs.Laws as laws
-use Rattle.numbers.specs.Laws.{lt-le, le-or-lt, magnitude-is, within-finite, within-more, within-neg, within-le, within-magnitude, within-add, within-sub, within-mul, within-literal, within-real, atleast-le, atleast-above, holds, finite-number, le-lt-trans, within-squares}
+use Rattle.numbers.specs.Laws.{lt-le, le-or-lt, magnitude-is, within-finite, within-more, within-neg, within-le, within-magnitude, within-add, within-sub, within-mul, within-literal, within-real, atleast-le, atleast-above, holds, finite-number, le-lt-trans, within-squares, neg-neg}
 use Rattle.numbers.specs.Fraction.{over, under, le→cross}
 use Rattle.numbers.specs.Rounded.{Rounded, rounded-le, sub-rounded, neg-round}
 use Rattle.numbers.specs.Monotone.{at-least-zero}
@@ -36,19 +36,11 @@ use Rattle.rules.specs.Alls.{all-mapped, all-parts}
 
 -- ---- the height of a kept edge
 
-double-neg : (x : Float) → neg (neg x) ≡ x
-unfolding neg
-double-neg nan = refl
-double-neg (inf true) = refl
-double-neg (inf false) = refl
-double-neg (fin true m e) = refl
-double-neg (fin false m e) = refl
-
 neg-rounded : {v : Float} {p n c : ℕ} → Rounded v p n c → Rounded (neg v) n p c
 neg-rounded {v} {p} {n} {c} r = go (r .sign) (r .is) (r .value)
   where
     go : (s : Bool) → v ≡ round binary64 s (r .size) c → over s (r .size) + n ≡ p + under s (r .size) → Rounded (neg v) n p c
-    go true e w = record { sign = false; size = r .size; is = ap neg e ∙ ap neg (sym (neg-round binary64 (r .size) c)) ∙ double-neg (round binary64 false (r .size) c); value = omega arith }
+    go true e w = record { sign = false; size = r .size; is = ap neg e ∙ ap neg (sym (neg-round binary64 (r .size) c)) ∙ neg-neg (round binary64 false (r .size) c); value = omega arith }
     go false e w = record { sign = true; size = r .size; is = ap neg e ∙ neg-round binary64 (r .size) c; value = omega arith }
 
 size-below : (v w : Float) → T (le v w) → T (le (neg v) w) → T (le (magnitude v) w)
@@ -86,12 +78,9 @@ product tn td qn qd u s h l t q =
     let b : tn * 2 ^ 1074 * qn ≤ 2 ^ s * td * (2 ^ (1095 - s) * qd) = mul-le-mul a q in
     let c : 2 ^ s * 2 ^ (1095 - s) ≡ 2 ^ 1074 * 2 ^ 21 = sym (pow-add 2 s (1095 - s)) ∙ ap (λ n. 2 ^ n) e ∙ pow-add 2 1074 21 in
     le-of-mul-le-mul-right
-    (le-trans (le-of-eq (regroup tn qn (2 ^ 1074))) (le-trans b (le-of-eq (spread (2 ^ s) td (2 ^ (1095 - s)) qd ∙ ap (λ n. n * (td * qd)) c ∙ fold (2 ^ 1074) (2 ^ 21) (td * qd)))))
+    (le-trans (le-of-eq (mul-right-comm tn qn (2 ^ 1074))) (le-trans b (le-of-eq (spread (2 ^ s) td (2 ^ (1095 - s)) qd ∙ ap (λ n. n * (td * qd)) c ∙ fold (2 ^ 1074) (2 ^ 21) (td * qd)))))
     (pow-pos 1074)
   where
-    regroup : (a b c : ℕ) → a * b * c ≡ a * c * b
-    regroup a b c = omega arith
-
     spread : (a b c d : ℕ) → a * b * (c * d) ≡ a * c * (b * d)
     spread a b c d = omega arith
 
@@ -103,13 +92,10 @@ module _ (mu de u : ℕ) (is : mu * 2 ^ 1074 ≡ u * de) (some : 0 < de) where
   lowest : de ≤ mu * 2 ^ 30 → 2 ^ 1044 ≤ u
   lowest h =
       let a : de * 2 ^ 1074 ≤ mu * 2 ^ 30 * 2 ^ 1074 = mul-le-mul-right (2 ^ 1074) h in
-      let b : mu * 2 ^ 30 * 2 ^ 1074 ≡ u * (2 ^ 30 * de) = shift mu (2 ^ 30) (2 ^ 1074) ∙ ap (λ n. n * 2 ^ 30) is ∙ turn u de (2 ^ 30) in
+      let b : mu * 2 ^ 30 * 2 ^ 1074 ≡ u * (2 ^ 30 * de) = mul-right-comm mu (2 ^ 30) (2 ^ 1074) ∙ ap (λ n. n * 2 ^ 30) is ∙ turn u de (2 ^ 30) in
       let c : de * 2 ^ 1074 ≡ 2 ^ 1044 * (2 ^ 30 * de) = part de (2 ^ 1074) (2 ^ 1044) (2 ^ 30) (pow-add 2 1044 30) in
       le-of-mul-le-mul-right (le-trans (le-of-eq (sym c)) (le-trans a (le-of-eq b))) (mul-pos (pow-pos 30) some)
     where
-      shift : (a b c : ℕ) → a * b * c ≡ a * c * b
-      shift a b c = omega arith
-
       turn : (a b c : ℕ) → a * b * c ≡ a * (c * b)
       turn a b c = omega arith
 
@@ -171,16 +157,10 @@ steep (fin t n c) (fin false m e) w a k f =
       under = size-lt u;
       slope =
           rw (ne-eqb m 0 z)
-          (within-round (1095 - size u) (unlike t false) (n * up c * down e) (m * up e * down c) (omega arith) (mul-pos (mul-pos (pos-of m z) (up-pos e)) (down-pos c))
-          (le-trans (mul-le-mul-right (down e) w) (le-trans (le-of-eq (swap (2 ^ 20) (down c) (down e))) (le-trans (mul-le-mul-right (down c) g) (le-of-eq (mul-assoc (2 ^ (1095 - size u)) (m * up e) (down c)))))));
+          (within-round (1095 - size u) (unlike t false) (n * up c * down e) (m * up e * down c) (omega arith) (mul-pos (mul-pos (pos-of-ne-zero z) (up-pos e)) (down-pos c))
+          (le-trans (mul-le-mul-right (down e) w) (le-trans (le-of-eq (mul-right-comm (2 ^ 20) (down c) (down e))) (le-trans (mul-le-mul-right (down c) g) (le-of-eq (mul-assoc (2 ^ (1095 - size u)) (m * up e) (down c)))))));
     }
   where
-    swap : (a b c : ℕ) → a * b * c ≡ a * c * b
-    swap a b c = omega arith
-
-    pos-of : (m : ℕ) → (m ≡ 0 → ⊥) → 0 < m
-    pos-of m z = elim (eq-zero-or-pos m) [ inl e ↦ absurd (z e) | inr l ↦ l ]
-
     below-back : (s : ℕ) → 2 ^ 1044 < 2 ^ s → 1045 ≤ s
     below-back s h = go (leb 1045 s) (leb→le 1045 s) (nleb→lt 1045 s)
       where
@@ -218,10 +198,7 @@ most (fin r k c) (fin s m e) ft t0 th fh fits h0 =
 
     chain : (x de mu td u U : ℕ) → 0 < de → x * de ≤ mu * td → mu * U ≡ u * de → x * U ≤ u * td
     chain x de mu td u U p a b =
-        le-of-mul-le-mul-right (le-trans (le-of-eq (flip x U de)) (le-trans (mul-le-mul-right U a) (le-of-eq (flip mu td U ∙ ap (λ v. v * td) b ∙ flip u de td)))) p
-      where
-        flip : (a b c : ℕ) → a * b * c ≡ a * c * b
-        flip a b c = omega arith
+        le-of-mul-le-mul-right (le-trans (le-of-eq (mul-right-comm x U de)) (le-trans (mul-le-mul-right U a) (le-of-eq (mul-right-comm mu td U ∙ ap (λ v. v * td) b ∙ mul-right-comm u de td)))) p
 
     go : (r s : Bool) → under r (k * up c) ≡ 0 → under s (m * up e) ≡ 0 → over r (k * up c) * down e + under s (m * up e) * down c ≤ over s (m * up e) * down c + under r (k * up c) * down e
         → m * up e * 2 ^ 1074 ≡ unitsOf (fin s m e) * down e → k * up c * 2 ^ 1074 ≤ unitsOf (fin s m e) * down c
@@ -229,6 +206,21 @@ most (fin r k c) (fin s m e) ft t0 th fh fits h0 =
         (omega (arith, rw (over-all r (k * up c) z, over-all s (m * up e) y, z, y) at l)) is
 
 -- ---- edges
+
+-- what holds of corners holds of both ends of their sides
+module _ (Q : P → Type 0) where
+  sides-to : (z : P) (l : List P) → Q z → All Q l → All (λ ab. Q (ab .0) × Q (ab .1)) (sidesTo z l)
+  unfolding sidesTo
+  sides-to z [] h k = tt
+  sides-to z (a ∷ []) h k = ((k .0, h), tt)
+  sides-to z (a ∷ b ∷ r) h k = ((k .0, k .1 .0), sides-to z (b ∷ r) h (k .1))
+
+  pub sides-all : (l : List P) → All Q l → All (λ ab. Q (ab .0) × Q (ab .1)) (sides l)
+  unfolding sides
+  sides-all [] k = tt
+  sides-all (a ∷ []) k = tt
+  sides-all (a ∷ b ∷ []) k = tt
+  sides-all (a ∷ b ∷ c ∷ r) k = sides-to a (a ∷ b ∷ c ∷ r) (k .0) k
 
 pub within-number : (n : ℕ) (x : Float) → Within n x → T (not (isNan x))
 within-number n x h = finite-number x (within-finite n x h)
@@ -328,24 +320,11 @@ module _ (outline : List (List P)) (g : Settings) (cyc : ℕ) (ok : Checked outl
         add-fits binary64 (p .x ⊗ neg (g .sine)) (p .y ⊗ g .cosine),
       )
 
-  sides-to : (z : P) (l : List P) → Near z → All Near l → All (λ ab. Near (ab .0) × Near (ab .1)) (sidesTo z l)
-  unfolding sidesTo
-  sides-to z [] h k = tt
-  sides-to z (a ∷ []) h k = ((k .0, h), tt)
-  sides-to z (a ∷ b ∷ r) h k = ((k .0, k .1 .0), sides-to z (b ∷ r) h (k .1))
-
-  sides-near : (l : List P) → All Near l → All (λ ab. Near (ab .0) × Near (ab .1)) (sides l)
-  unfolding sides
-  sides-near [] k = tt
-  sides-near (a ∷ []) k = tt
-  sides-near (a ∷ b ∷ []) k = tt
-  sides-near (a ∷ b ∷ c ∷ r) k = sides-to a (a ∷ b ∷ c ∷ r) (k .0) k
-
   -- every kept edge is good
   pub edges-good : All Good (edges g outline)
   unfolding edges turned
   edges-good =
       all-parts (All Corner) Good (λ ring. each keptSide (sides (map (λ p. rotate p (g .cosine) (neg (g .sine))) ring)))
       (λ ring h. all-parts (λ ab. Near (ab .0) × Near (ab .1)) Good keptSide (λ ab k. kept-good (ab .0) (ab .1) (k .0) (k .1)) (sides (map (λ p. rotate p (g .cosine) (neg (g .sine))) ring))
-      (sides-near (map (λ p. rotate p (g .cosine) (neg (g .sine))) ring) (all-mapped Corner Near (λ p. rotate p (g .cosine) (neg (g .sine))) turned-near ring h)))
+      (sides-all Near (map (λ p. rotate p (g .cosine) (neg (g .sine))) ring) (all-mapped Corner Near (λ p. rotate p (g .cosine) (neg (g .sine))) turned-near ring h)))
       outline (ok .corners)

@@ -18,7 +18,7 @@ use Rattle.geom.specs.declared.point.P.{P}
 use Rattle.geom.specs.Point.{point, rotate, dist}
 use Rattle.outlines.specs.declared.rule.FillRule.{FillRule}
 use Rattle.geom.specs.Outline.{rings}
-use Rattle.limits.specs.Limits.{goodOutline, goodNumbers, goodSpacing, goodLen, goodInset, goodStagger, goodTurn}
+use Rattle.limits.specs.Limits.{mostRows, goodOutline, goodNumbers, goodSpacing, goodLen, goodInset, goodStagger, goodTurn}
 use Rattle.geom.specs.Steps.{along}
 use Rattle.outlines.specs.Inside.{inside, pointInside}
 use Rattle.rules.specs.declared.Settings.{Settings}
@@ -327,7 +327,7 @@ gate corners ends g stagger rest =
     (cond (not (goodNumbers corners)) NUMBER
     (cond (not (goodSettings g stagger)) SETTING
     (cond (not (goodTurn (g .cosine) (g .sine))) TURN
-    (cond (ltb 4096 (length (rowNumbers g (edges g (rings corners ends))))) SIZE rest))))
+    (cond (ltb mostRows (length (rowNumbers g (edges g (rings corners ends))))) SIZE rest))))
 
 -- the need of a fill with E kept edges and I kept pieces: 6E + 4I floats and 4E + 6I whole numbers
 abbrev pub needFloats : ℕ → ℕ → ℕ

@@ -10,6 +10,7 @@ pub mod Sweep
 pub mod SweepLaws
 pub mod Accepted
 pub mod Edges
+pub mod Keys
 pub mod Rows
 pub mod Pieces
 pub mod Rise

@@ -1,30 +1,27 @@
 -- The rows of an accepted fill: their numbers are small, `k_lo` and `k_hi` lose nothing as i64, no row stands above the one before it, and a row's crossings have one order.
 -- Assumes nothing.
-use mathlib.Core.Path.{_≡_, refl, ap, subst}
-use mathlib.Core.Bool.{Bool, true, false, not, _&&_, cond}
+use mathlib.Core.Path.{_≡_, refl, ap}
+use mathlib.Core.Bool.{true, false, not, _&&_}
 use mathlib.Core.List.{List, [], _∷_, map}
-use mathlib.Core.Logic.{⊎-elim}
 use Prim.Native.Nat.{ℕ, zero, suc, _+_, _^_, _≤_, _<_, zero-le}
 use native.Mathlib.Nat.{lt-irrefl}
 use native.Mathlib.Omega.{arith}
-use lib.Dec.{T, leb, le→leb, lit≤}
+use lib.Dec.{T, le→leb, lit≤}
 use lib.IntN.{ℤ, pos, negsuc, sucℤ, natAbs, _+ℤ_}
 use lib.Pow.{pow-pos}
 use lib.Signed.{leZ}
 use lib.ListN.{length}
 use lib.Ieee.{Float, nan, inf, fin, binary64, fits, le, isNan}
-use lib.Ieee.Bits.{is-true}
 use lib.Ieee.Fits.{add-fits, sub-fits}
 use Rattle.numbers.specs.Num.{_⊕_, _⊖_, _⊗_, _⊘_, zero64, half, real}
 use Rattle.numbers.specs.Order.{before, smaller, larger}
 use Rattle.numbers.specs.Whole.{floor, ceil}
 use Rattle.numbers.specs.Value.{Within, AtLeast, IsWhole}
-use Rattle.numbers.specs.Laws.{le-refl, lt-le, before-asym, before-trans, before-total, not-before-le, smaller-has, larger-has, real-mono, add-mono, mul-mono, within-finite, within-more, within-between, within-add, within-sub, within-mul, within-div, within-real, atleast-le, atleast-above, ceil-signed, floor-signed, holds}
-use Rattle.seqs.specs.Lists.{fold, sift, upto, byKey, sortBy, All, Sorted, Strict, Keyed}
-use Rattle.seqs.specs.Tests.{refute, clash}
-use Rattle.seqs.specs.All.{all-map, sorted-map}
+use Rattle.numbers.specs.Laws.{le-refl, lt-le, smaller-has, larger-has, real-mono, add-mono, mul-mono, within-finite, within-more, within-between, within-add, within-sub, within-mul, within-div, within-real, atleast-le, atleast-above, ceil-signed, floor-signed}
+use Rattle.seqs.specs.Lists.{fold, sift, upto, byKey, All, Sorted, Strict}
+use Rattle.seqs.specs.All.{all-map}
 use Rattle.seqs.specs.ByKey.{by-key-strict}
-use Rattle.seqs.specs.Sort.{sort-perm, sort-ordered}
+use Rattle.seqs.specs.Sort.{sort-perm}
 use Rattle.seqs.specs.Signed.{natAbs-add}
 use Rattle.geom.specs.declared.point.P.{P}
 use Rattle.rules.specs.declared.Settings.{Settings}
@@ -34,6 +31,7 @@ use Rattle.rules.specs.Sweep.{InOrder, byStart}
 use Rattle.rules.specs.Accepted.{Checked}
 use Rattle.rules.specs.Alls.{all-get}
 use Rattle.rules.specs.Edges.{Good, within-number, edges-good}
+use Rattle.rules.specs.Keys.{keyed, sorted-up}
 
 -- what is known of a row's number
 abbrev pub Fair : ℤ → Type 0
@@ -161,27 +159,6 @@ module _ (outline : List (List P)) (g : Settings) (cyc : ℕ) (ok : Checked outl
       let y = rowAt g k in
       within-add 84 (e .x0) ((y ⊖ e .y0) ⊗ e .dxdy) (lit≤ tt) (within-more 19 84 (e .x0) (lit≤ tt) (p .1))
       (within-mul 34 50 (y ⊖ e .y0) (e .dxdy) (lit≤ tt) (within-sub 33 y (e .y0) (lit≤ tt) (row-within k h) (within-more 19 33 (e .y0) (lit≤ tt) (p .0))) (p .2))
-
-  module _ (key : ℕ → Float) (fit : (i : ℕ) → T (fits binary64 (key i))) (whole : (i : ℕ) → T (not (isNan (key i)))) where
-    -- `before` orders keys that are numbers
-    keyed : Keyed before key
-    keyed = record {
-      one-way = λ i j e. refute (before (key j) (key i)) (λ d. absurd (before-asym (key i) (key j) (holds e) (holds d)));
-      trans = λ i j k d e. is-true (before (key i) (key k)) (before-trans (key i) (key j) (key k) (holds d) (holds e));
-      level = λ i j d e. ⊎-elim (λ h. absurd (subst T d h)) (λ r. ⊎-elim (λ h. absurd (subst T e h)) (λ q. q) r) (before-total (key i) (key j) (fit i) (fit j) (whole i) (whole j));
-    }
-
-    ahead : (a b x : Bool) → (a ≡ true → b ≡ true → ⊥) → cond a true (cond b false x) ≡ true → b ≡ true → ⊥
-    ahead true b x f e d = f refl d
-    ahead false true x f e d = clash e refl
-    ahead false false x f e d = clash d refl
-
-    -- and sorted by it they never fall
-    sorted-up : (l : List ℕ) → Sorted (λ i j. T (le (key i) (key j))) (sortBy (byKey before key) l)
-    sorted-up l =
-        let o = by-key-strict before key keyed in
-        sorted-map (λ i j e. not-before-le (key i) (key j) (whole i) (whole j) (λ d. ahead (before (key i) (key j)) (before (key j) (key i)) (leb i j) (λ p q. before-asym (key i) (key j) (holds p) (holds q)) e (is-true (before (key j) (key i)) d)))
-        (sortBy (byKey before key) l) (sort-ordered (byKey before key) (o .total) (o .trans) l)
 
   pub rows-strict : (k : ℤ) → Fair k → Strict (byX (edges g outline) (rowAt g k))
   unfolding byX crossX

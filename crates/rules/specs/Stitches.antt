@@ -67,10 +67,10 @@ unfolding cycle
 cycle-some zero l = (lit< tt, lit≤ tt)
 cycle-some (suc n) l = rw (ne-eqb (suc n) 0 (λ z. omega arith)) (omega arith, l)
 
-below : (k : ℤ) (c : ℕ) → 0 < c → remEuclid k c < c
+pub rem-below : (k : ℤ) (c : ℕ) → 0 < c → remEuclid k c < c
 unfolding remEuclid
-below (pos a) c h = mod-lt a h
-below (negsuc a) c h = omega arith
+rem-below (pos a) c h = mod-lt a h
+rem-below (negsuc a) c h = omega arith
 
 -- a point's numbers
 abbrev pub Inner : P → Type 0
@@ -93,7 +93,7 @@ module _ (outline : List (List P)) (g : Settings) (stagger : ℕ) (ok : Checked 
       let s = cycle-some stagger (ok .stagger) in
       let r = remEuclid k c in
       within-div 20 0 (real (pos r) ⊗ g .len) (real (pos c)) (lit≤ tt)
-      (within-mul 10 10 (real (pos r)) (g .len) (lit≤ tt) (within-real 10 (pos r) (lit≤ tt) (omega (arith, below k c (s .0), s .1))) len-within)
+      (within-mul 10 10 (real (pos r)) (g .len) (lit≤ tt) (within-real 10 (pos r) (lit≤ tt) (omega (arith, rem-below k c (s .0), s .1))) len-within)
       (count-least c (s .0) (omega (arith, s .1)))
 
   end-within : Within 10 (minEnd g)

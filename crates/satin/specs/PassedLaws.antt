@@ -1,16 +1,15 @@
 -- What is proved of the answers once the rails are accepted: which of SIZE, WORK, ROOM and DONE it is. Assumes nothing.
-use Prim.Native.Nat.{ℕ, zero, suc, _+_, _*_, _/_, _%_, _≤_, _<_}
+use Prim.Native.Nat.{ℕ, zero, suc, _*_, _/_, _%_, _≤_, _<_}
 use native.Mathlib.Omega.{arith}
-use mathlib.Core.Path.{_≡_, refl, sym, ap, _∙_}
-use mathlib.Core.Bool.{Bool, true, false, _&&_, _||_, cond}
-use mathlib.Core.Logic.{inl, inr}
-use mathlib.Core.List.{List, [], _∷_, _++_, map}
+use mathlib.Core.Path.{_≡_, refl, ap, _∙_}
+use mathlib.Core.Bool.{Bool, true, false, _&&_, _||_}
+use mathlib.Core.List.{List, [], _∷_, _++_}
 use lib.Dec.{leb, ltb, eqb}
 use lib.ListN.{length, drop, length-append, length-drop}
 use lib.Ieee.{Float}
 use borrow.Author.Tests.{le-leb, lt-leb, leb-true, ne-eqb, eqb-true, ltb-false}
 use Rattle.refusal.specs.Refusal.{DONE, LAYOUT, NUMBER, SETTING, SIZE, WORK, ROOM, unless, _then_}
-use Rattle.seqs.specs.Tests.{and-both, either, clash}
+use Rattle.seqs.specs.Tests.{and-both, clash}
 use Rattle.geom.specs.declared.point.P.{P}
 use Rattle.geom.specs.Outline.{points}
 use Rattle.geom.specs.OutlineLaws.{points-length}
@@ -18,7 +17,7 @@ use Rattle.geom.specs.Sewing.{flat, fitted}
 use Rattle.geom.specs.SewingLaws.{flat-length, points-flat}
 use Rattle.limits.specs.Limits.{mostPairs, goodLine, goodNumbers, goodStep}
 use Rattle.satinrules.specs.declared.Pair.{Pair}
-use Rattle.satinrules.specs.Pairs.{endsOf, few, countOf, places, pairAt, pairs}
+use Rattle.satinrules.specs.Pairs.{endsOf, few, countOf, places, pairs}
 use Rattle.satinrules.specs.Calls.{railsOf, goodSync, goodRails, sized, mostOf, need, passed, worked, bothPoints, pairsRefusal}
 use Rattle.pairing.specs.Store.{Sound, storedPairs}
 use Rattle.pairing.specs.StoreLaws.{stored-length}
@@ -203,6 +202,3 @@ worked-kept (suc n) w h g = rw (le-leb 1 (suc n) (omega arith), le-leb (suc n) 5
 -- the pairs that stand in a slice are the ones that were laid
 pub placed-in : (a b sync s : List Float) (ps : List P) → s ≡ storedPairs a b sync ps → pairsIn (points s) ≡ placed a b sync ps
 placed-in a b sync s ps e = ap (λ l. pairsIn (points l)) e ∙ ap pairsIn (points-flat (bothPoints (placed a b sync ps))) ∙ pairs-in-both (placed a b sync ps)
-
-pub placed-size : (a b sync s : List Float) (ps : List P) → s ≡ storedPairs a b sync ps → length s / 4 ≡ length ps
-placed-size a b sync s ps e = omega (arith, ap length e, stored-length a b sync ps)

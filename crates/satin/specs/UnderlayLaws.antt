@@ -5,7 +5,7 @@ use mathlib.Core.Path.{_≡_, refl, sym, ap, _∙_}
 use mathlib.Core.Bool.{Bool, true, false, not, _||_, cond}
 use mathlib.Core.List.{List, [], _∷_, _++_, append-assoc}
 use lib.Dec.{eqb}
-use lib.ListN.{length, take, drop, length-append, length-reverse}
+use lib.ListN.{length, take, drop, length-append}
 use lib.Ieee.{Float}
 use borrow.Author.Tests.{eq-eqb, ne-eqb}
 use Rattle.seqs.specs.Tests.{clash}
@@ -30,15 +30,11 @@ use Rattle.pairing.specs.StoreLaws.{put-back}
 use Rattle.passes.specs.declared.threads.Thread.{Thread}
 use Rattle.passes.specs.declared.threads.Thread.the-variants.{Middle, SideA, SideB, Alternate}
 use Rattle.passes.specs.Threads.{pairsIn, threadOf}
-use Rattle.passes.specs.ThreadsLaws.{thread-length, middle-thread, a-thread, b-thread, alternate-thread}
+use Rattle.passes.specs.ThreadsLaws.{thread-length, middle-thread, a-thread, b-thread, alternate-thread, turned-length}
 use Rattle.passes.specs.TopLaws.{stitches-length}
 use Rattle.satin.specs.Passed.{placed}
 use Rattle.satin.specs.PassedLaws.{pass-places, placed-in}
 use Rattle.satin.specs.Underlay.{Fit, runs, overIf, runsOver, underlayCount}
-
-pub turned-length : (l : List P) (back : Bool) → length (turnedIf back l) ≡ length l
-turned-length l true = length-reverse l
-turned-length l false = refl
 
 module _ {a b sync : List Float} {step : Float} {ends : P} {pass : Pass} {n : ℕ} (f : Fit a b sync step ends pass n) where
   pub fit-pairs : placed a b sync (walkPlaces ends (points sync) pass) ≡ pairs (railsOf a b sync) step

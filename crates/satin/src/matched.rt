@@ -1,7 +1,6 @@
 // The pairs of rails that were accepted.
 ghost use mathlib.Core.Path.{_≡_};
 ghost use mathlib.Core.Bool.{false};
-ghost use mathlib.Core.List.{[], _∷_};
 ghost use lib.ListN.{length};
 ghost use Rattle.refusal.specs.Sewn.{sewn, output};
 ghost use Rattle.geom.specs.Sewing.{flat};
@@ -14,6 +13,7 @@ use crate::rails::ends_of;
 use crate::rails::need;
 use crate::slices::copy;
 use crate::slices::zero;
+use limits::MOST_PAIRS;
 use pairing::places::count_places;
 use pairing::places::pass_of;
 use pairing::store::lay_pairs;
@@ -23,9 +23,6 @@ use refusal::ROOM;
 use refusal::SIZE;
 use refusal::Sewn;
 use refusal::WORK;
-
-// Of a pass.
-pub const MOST_PAIRS: u64 = 65536;
 
 // The pairs to the front of out, by the running lengths of both rails.
 fn pairs_along(

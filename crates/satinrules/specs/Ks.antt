@@ -1,10 +1,10 @@
 -- Document 01's checks K10 and K11, of the definitions, by computing; and a whole column.
 use Prim.Native.Nat.{ℕ}
 use mathlib.Core.Path.{_≡_, refl}
-use mathlib.Core.Bool.{true, false}
-use mathlib.Core.List.{List, [], _∷_}
+use mathlib.Core.Bool.{true}
+use mathlib.Core.List.{[], _∷_}
 use lib.ListN.{length}
-use lib.Ieee.{Float, fin, add, sub, mul, div, neg, lt, le, eq, ofInt, round, toUnsigned, isNan}
+use lib.Ieee.{Float, add, sub, mul, div, neg, lt, le, eq, ofInt, round, toUnsigned, isNan}
 use Rattle.numbers.specs.Num.{literal}
 use Rattle.numbers.specs.Order.{negative, before, smaller, larger}
 use Rattle.numbers.specs.Whole.{wholeOf, ceil}
@@ -14,7 +14,6 @@ use Rattle.geom.specs.Point.{point, len, dist, norm, lerp, tiny}
 use Rattle.geom.specs.Steps.{steps}
 use Rattle.polyline.specs.Line.{lengthFrom, polylineLength, shortest}
 use Rattle.satinrules.specs.declared.Pair.{Pair}
-use Rattle.satinrules.specs.declared.Satin.{Satin}
 use Rattle.satinrules.specs.declared.Split.the-variants.{Length}
 use Rattle.satinrules.specs.declared.Style.the-variants.{Plain}
 use Rattle.satinrules.specs.Settings.{shortDist, shortInset, underlayInset, zigzagUnderlaySpacing}

@@ -1,10 +1,8 @@
 -- The satin settings: the four constants, what is accepted, and what the maker says. Definitions only.
-use Prim.Native.Nat.{ℕ}
 use mathlib.Core.Bool.{Bool, true, _&&_, cond}
-use lib.IntN.{pos}
 use lib.Ieee.{Float, eq}
 use Rattle.refusal.specs.Refusal.{SETTING, Answer, done, refused, unless, answer}
-use Rattle.numbers.specs.Num.{real, literal, zero64}
+use Rattle.numbers.specs.Num.{literal, zero64}
 use Rattle.limits.specs.Limits.{goodSpacing, goodLen, goodInset, goodUnderlay, goodSplit}
 use Rattle.satinrules.specs.declared.Satin.{Satin}
 use Rattle.satinrules.specs.declared.Split.{Split}

@@ -155,11 +155,7 @@ module _ (l : List Float) (b r : ℕ) (up : Rising l b r) (p : Piece) (t : ℕ) 
 module _ (l : List Float) (r s : ℕ) (up : Rising l r s) (o : Piece) (j : ℕ) (low : r ≤ j) (high : j < s) (hit : under l o j ≡ true) where
   ends : (lt (o .xa) (xbAt l j) ≡ true) × (lt (xaAt l j) (o .xb) ≡ true)
   unfolding overlap
-  ends = both (lt (o .xa) (xbAt l j)) (lt (xaAt l j) (o .xb)) hit
-    where
-      both : (a b : Bool) → (a && b) ≡ true → (a ≡ true) × (b ≡ true)
-      both true b e = (refl, e)
-      both false b e = clash e refl
+  ends = and-both (lt (o .xa) (xbAt l j)) (lt (xaAt l j) (o .xb)) hit
 
   none-left : r < j → under l o (j - 1) ≡ false → (u : ℕ) → r ≤ u → u < j → under l o u ≡ false
   unfolding overlap

@@ -1,5 +1,5 @@
 -- Counts that stop one past a cap. Assumes nothing.
-use mathlib.Core.Path.{_≡_, refl, sym, ap, _∙_}
+use mathlib.Core.Path.{_≡_, sym, ap, _∙_}
 use mathlib.Core.Bool.{true, false}
 use mathlib.Core.Logic.{_⊎_, inl, inr}
 use Prim.Native.Nat.{ℕ, _+_, _≤_, _<_}
@@ -43,7 +43,3 @@ module _ (cap : ℕ) where
   -- counting on from a count that may have stopped
   pub capped-on : (n m : ℕ) → capped cap (capped cap n + m) ≡ capped cap (n + m)
   capped-on n m = elim (capped-cases n) [ inl w ↦ ap (λ k. capped cap (k + m)) (w .1) | inr w ↦ capped-over (capped cap n + m) (omega (arith, w)) ∙ sym (capped-over (n + m) (omega (arith, w))) ]
-
-  -- a loop that leaves as soon as the count is past the cap
-  pub capped-stop : (n m : ℕ) → cap < capped cap n → capped cap n ≡ capped cap (n + m)
-  capped-stop n m h = let k = capped-past n refl h in capped-over n k ∙ sym (capped-over (n + m) (omega arith))

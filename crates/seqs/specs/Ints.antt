@@ -74,12 +74,12 @@ add-parts (pos a) (negsuc b) = omega (arith, sub-parts a (suc b))
 add-parts (negsuc a) (pos b) = omega (arith, sub-parts b (suc a))
 add-parts (negsuc a) (negsuc b) = omega arith
 
-neg-above : (a : ℤ) → above (negℤ a) ≡ below a
+pub neg-above : (a : ℤ) → above (negℤ a) ≡ below a
 neg-above (pos zero) = refl
 neg-above (pos (suc n)) = refl
 neg-above (negsuc n) = refl
 
-neg-below : (a : ℤ) → below (negℤ a) ≡ above a
+pub neg-below : (a : ℤ) → below (negℤ a) ≡ above a
 neg-below (pos zero) = refl
 neg-below (pos (suc n)) = refl
 neg-below (negsuc n) = refl

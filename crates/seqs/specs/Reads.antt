@@ -5,7 +5,7 @@ use mathlib.Core.List.{List, [], _∷_, _++_, append-nil}
 use Prim.Native.Nat.{ℕ, zero, suc, _+_, _-_, _≤_, _<_}
 use native.Mathlib.Numerals.{add-one}
 use native.Mathlib.Omega.{arith}
-use lib.ListN.{length, getD, take, drop, length-drop}
+use lib.ListN.{length, getD, take, drop}
 use lib.Seq.{length-take-le, slice-cons, drop-drop, drop-length, drop-nil, take-nil, getD-take, take-take}
 use Rattle.seqs.specs.Front.{next, none}
 
@@ -25,9 +25,6 @@ module _ {ℓ} {A : Type ℓ} where
   few [] h = inl refl
   few (a ∷ []) h = inr (a, refl)
   few (a ∷ b ∷ l) h = absurd (omega arith)
-
-  pub none2 : (l : List A) (i : ℕ) → length l ≤ i + 1 → (drop i l ≡ []) ⊎ ((a : A) × (drop i l ≡ a ∷ []))
-  none2 l i h = few (drop i l) (simp length-drop (omega arith))
 
   -- reading the first n
   pub part-next : (l : List A) (n i : ℕ) (z : A) → i < n → n ≤ length l → drop i (take n l) ≡ getD l i z ∷ drop (i + 1) (take n l)

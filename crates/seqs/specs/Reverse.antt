@@ -3,7 +3,7 @@ use Prim.Native.Nat.{ℕ, suc, _-_, _≤_, _<_}
 use native.Mathlib.Omega.{arith}
 use mathlib.Core.Path.{_≡_, refl, ap, _∙_}
 use mathlib.Core.List.{List, [], _∷_, _++_, reverse, reverse-cons}
-use mathlib.Core.Bool.{Bool, true, false}
+use mathlib.Core.Bool.{Bool, true, false, cond}
 use lib.Dec.{ltb}
 use borrow.Author.Tests.{ltb-true, ltb-false}
 use lib.ListN.{length, getD, length-reverse, List·getD-append}
@@ -27,3 +27,8 @@ module _ {ℓ} {A : Type ℓ} where
   pub getD-reverse : (l : List A) (i : ℕ) (z : A) → i < length l → getD (reverse l) i z ≡ getD l (length l - 1 - i) z
   getD-reverse [] i z h = absurd (omega arith)
   getD-reverse (x ∷ l) i z h = ap (λ (m : List A). getD m i z) (reverse-cons x l) ∙ last x l i z h (getD-reverse l i z)
+
+-- a place of n, from either end
+pub place-below : (back : Bool) (r n : ℕ) → r < n → cond back (n - 1 - r) r < n
+place-below true r n h = omega arith
+place-below false r n h = h

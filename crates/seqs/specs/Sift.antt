@@ -3,10 +3,9 @@ use mathlib.Core.Path.{_≡_, refl, sym, ap, _∙_}
 use mathlib.Core.Bool.{Bool, true, false, _&&_}
 use mathlib.Core.Logic.{inl, inr}
 use mathlib.Core.List.{List, [], _∷_, _++_, map, List·Memᴰ, List·Memᴰ·head, List·Memᴰ·tail, List·Memᴰ·cases-cons, List·Permᴰ, List·Permᴰ·nil, List·Permᴰ·cons, List·Permᴰ·swap, List·Permᴰ·trans, Permᴰ·refl}
-use Prim.Native.Nat.{ℕ, _+_, _≤_, _<_}
+use Prim.Native.Nat.{_≤_}
 use native.Mathlib.Omega.{arith}
-use lib.ListN.{length, getD, drop}
-use Rattle.seqs.specs.Front.{next}
+use lib.ListN.{length}
 use Rattle.seqs.specs.Lists.{keepIf, sift, All}
 use Rattle.seqs.specs.Tests.{either, clash, refute}
 
@@ -56,13 +55,6 @@ module _ {ℓ} {A : Type ℓ} (p : A → Bool) where
   pub sift-absorb : (q : A → Bool) → ((a : A) → q a ≡ true → p a ≡ true) → (l : List A) → sift q (sift p l) ≡ sift q l
   sift-absorb q i [] = refl
   sift-absorb q i (a ∷ l) = elim (either (p a)) [ inl e ↦ rw e (ap (keepIf (q a) a) (sift-absorb q i l)) | inr e ↦ rw (e, refute (q a) (λ t. clash (i a t) e)) (sift-absorb q i l) ]
-
-  -- a turn of a loop that reads the list from the front
-  pub sift-kept : (l : List A) (i : ℕ) (z : A) → i < length l → p (getD l i z) ≡ true → sift p (drop i l) ≡ getD l i z ∷ sift p (drop (i + 1) l)
-  sift-kept l i z h e = rw (next l i z h, e)
-
-  pub sift-passed : (l : List A) (i : ℕ) (z : A) → i < length l → p (getD l i z) ≡ false → sift p (drop i l) ≡ sift p (drop (i + 1) l)
-  sift-passed l i z h e = rw (next l i z h, e)
 
   -- of a list in another order
   pub sift-perm : {l m : List A} → List·Permᴰ l m → List·Permᴰ (sift p l) (sift p m)

@@ -5,11 +5,10 @@ use mathlib.Core.Logic.{inl, inr}
 use mathlib.Core.List.{List, [], _∷_, _++_, append-nil, List·Permᴰ, List·Permᴰ·nil, List·Permᴰ·cons, List·Permᴰ·swap, List·Permᴰ·trans, Permᴰ·refl, Permᴰ·symm, Permᴰ·middle, Permᴰ·append-left}
 use Prim.Native.Nat.{suc}
 use lib.ListN.{length}
-use Rattle.seqs.specs.Lists.{sift, every, fold, insertBy, insertBack, sortBy, All, Ordered, Strict, Sorts}
+use Rattle.seqs.specs.Lists.{every, fold, insertBy, insertBack, sortBy, All, Ordered, Strict, Sorts}
 use Rattle.seqs.specs.Tests.{either, clash, refute}
-use Rattle.seqs.specs.All.{all-map, all-perm, sorted-sift}
+use Rattle.seqs.specs.All.{all-map, all-perm}
 use Rattle.seqs.specs.Each.{all-every}
-use Rattle.seqs.specs.Sift.{sift-perm}
 
 module _ {ℓ} {A : Type ℓ} where
   pub perm-length : {l m : List A} → List·Permᴰ l m → length l ≡ length m
@@ -98,12 +97,6 @@ module _ {ℓ} {A : Type ℓ} (le : A → A → Bool) (o : Strict le) where
   -- so of every ordered list of the same elements
   pub ordered-sort : {l : List A} (m : List A) → Ordered le m → List·Permᴰ m l → m ≡ sortBy le l
   ordered-sort m h p = sym (sort-of-ordered m h) ∙ sort-same p
-
-  pub ordered-same : (l m : List A) → Ordered le l → Ordered le m → List·Permᴰ l m → l ≡ m
-  ordered-same l m h k p = ordered-sort l h p ∙ sort-of-ordered m k
-
-  pub sort-sift : (p : A → Bool) (l : List A) → sift p (sortBy le l) ≡ sortBy le (sift p l)
-  sort-sift p l = ordered-sort (sift p (sortBy le l)) (sorted-sift (λ a b. le a b ≡ true) p (sortBy le l) (sort-ordered le (o .total) (o .trans) l)) (sift-perm p (sort-perm le l))
 
   -- insertion from the back
   pub back-is : (a : A) (l : List A) → Ordered le l → insertBack le a l ≡ insertBy le a l

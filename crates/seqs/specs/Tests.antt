@@ -1,8 +1,9 @@
 -- What a test's value tells. Assumes nothing.
 use mathlib.Core.Path.{_≡_, refl, sym, _∙_}
-use mathlib.Core.Bool.{Bool, true, false, _&&_, cond, true≢false}
+use mathlib.Core.Bool.{Bool, true, false, not, _&&_, true≢false}
 use mathlib.Core.Logic.{_⊎_, inl, inr}
 use lib.Dec.{T}
+use borrow.Author.Tests.{not-true, not-false}
 
 pub either : (b : Bool) → (b ≡ true) ⊎ (b ≡ false)
 either true = inl refl
@@ -25,11 +26,9 @@ pub and-both : (a b : Bool) → (a && b) ≡ true → (a ≡ true) × (b ≡ tru
 and-both true b e = (refl, e)
 and-both false b e = clash e refl
 
--- the same of nested branches: the first must hold, or must not
-pub cond-both : (a b : Bool) → cond a b false ≡ true → (a ≡ true) × (b ≡ true)
-cond-both true b e = (refl, e)
-cond-both false b e = clash e refl
+-- what a check `if !test(..)` shows of the test's definition
+pub passed : {r t : Bool} → r ≡ t → not r ≡ false → t ≡ true
+passed {r} e h = sym e ∙ not-false r h
 
-pub cond-else : (a b : Bool) → cond a false b ≡ true → (a ≡ false) × (b ≡ true)
-cond-else true b e = clash e refl
-cond-else false b e = (refl, e)
+pub failed : {r t : Bool} → r ≡ t → not r ≡ true → t ≡ false
+failed {r} e h = sym e ∙ not-true r h

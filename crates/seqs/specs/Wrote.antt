@@ -81,6 +81,3 @@ module _ {ℓ} {A : Type ℓ} where
 
   pub wrote-stores : (d : List A) (k : ℕ) (m : List A) → Wrote d (stores d k m) k m
   wrote-stores d k m = rw stores-sets (record { size = length-sets d k m; kept = take-sets k k d m (omega arith); is = sets-eq m d k })
-
-  pub front-stores : {d₀ d : List A} {n : ℕ} (m rest : List A) {whole : List A} → Front d₀ d n (m ++ rest) whole → n + length m ≤ length d → Front d₀ (stores d n m) (n + length m) rest whole
-  front-stores {d₀} {d} {n} m rest {whole} f h = rw (wrote-stores d n m .is h) (block-front m rest f h)

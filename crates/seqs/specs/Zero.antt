@@ -1,9 +1,9 @@
 -- Laws of `replicate`, for slices that are made all zero. Assumes nothing.
-use mathlib.Core.Path.{_≡_, refl, sym, ap, _∙_}
-use mathlib.Core.List.{List, _∷_, _++_}
-use Prim.Native.Nat.{ℕ, zero, suc, _+_, _-_, _≤_}
+use mathlib.Core.Path.{_≡_, refl, ap}
+use mathlib.Core.List.{_∷_}
+use Prim.Native.Nat.{ℕ, zero, suc, _-_, _≤_}
 use native.Mathlib.Omega.{arith}
-use lib.ListN.{length, take, drop, replicate, take-append-drop, replicate-append-replicate}
+use lib.ListN.{take, drop, replicate}
 
 module _ {ℓ} {A : Type ℓ} (z : A) where
   pub take-replicate : (n k : ℕ) → k ≤ n → take k (replicate n z) ≡ replicate k z
@@ -15,9 +15,3 @@ module _ {ℓ} {A : Type ℓ} (z : A) where
   drop-replicate n zero = let e : n - 0 ≡ n = omega arith in rw e
   drop-replicate zero (suc k) = let e : 0 - suc k ≡ 0 = omega arith in rw e
   drop-replicate (suc n) (suc k) = let e : suc n - suc k ≡ n - k = omega arith in rw e (drop-replicate n k)
-
-  -- a slice whose two parts are zero is zero
-  pub zero-parts : (d : List A) (k : ℕ) → k ≤ length d → take k d ≡ replicate k z → drop k d ≡ replicate (length d - k) z → d ≡ replicate (length d) z
-  zero-parts d k h e f =
-      let s : k + (length d - k) ≡ length d = omega arith in
-      sym (take-append-drop k d) ∙ (λ i. e i ++ f i) ∙ replicate-append-replicate k (length d - k) z ∙ rw s

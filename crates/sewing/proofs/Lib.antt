@@ -3,5 +3,4 @@ pub mod Signs
 pub mod Loops
 pub mod Chains
 pub mod Walks
-pub mod SquareRoots
 pub mod Shortcut

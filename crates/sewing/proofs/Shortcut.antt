@@ -15,7 +15,6 @@ use Rattle.numbers.specs.Laws as laws
 use Rattle.numbers.specs.Laws.{holds}
 use Rattle.seqs.specs.Tests.{clash}
 use Rattle.sewing.specs.Sewing.{cutsAt, cutsFor, OwnRoot, Decides}
-use Rattle.sewing.proofs.SquareRoots.{root-square}
 
 -- nothing is at most a NaN
 pub never : {X : Type 0} (d : Float) → le d nan ≡ true → X
@@ -50,7 +49,7 @@ own-root x f h k =
     let u = laws.lt-le zero64 small (laws.atleast-above 500 small small-least) in
     let i = laws.within-finite 800 (x ⊗ x) (laws.within-mul 400 400 x x (lit≤ tt) w w) in
     let j = laws.lt-le-trans zero64 (small ⊗ small) (x ⊗ x) small-square (laws.le-trans (small ⊗ small) (x ⊗ small) (x ⊗ x) (laws.mul-mono small x small s g s u h) (laws.mul-mono-right x small x g s g (laws.lt-le zero64 x p) h)) in
-    record { above = p; fine = g; some = j; whole = i; back = root-square x f a i j }
+    record { above = p; fine = g; some = j; whole = i; back = laws.root-square x f a i j }
 
 -- a longer step has no fewer cuts
 module _ (len : Float) (above : T (lt zero64 len)) (fine : T (finite len)) where

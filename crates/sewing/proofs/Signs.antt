@@ -18,6 +18,7 @@ use Rattle.seqs.specs.Tests.{clash, either}
 use Rattle.seqs.specs.Slices.{capped}
 use Rattle.seqs.specs.Capped.{capped-in, capped-cases}
 use Rattle.rules.specs.Fill.{howMany, remEuclid}
+use Rattle.rules.specs.Stitches.{rem-below}
 use Rattle.sewing.specs.declared.row.Row.{Row}
 use Rattle.sewing.specs.Sewing.{most, Near, rowNumber, phaseOf}
 
@@ -135,11 +136,6 @@ settle n x y u₁ u₂ u₃ v₁ v₂ v₃ h e = sym (mod-eq-of-lt h) ∙ sym (o
   where
     off : (x u v w : ℕ) → (x + n * u + n * v + n * w) % n ≡ x % n
     off x u v w = add-mul-mod-self-left (x + n * u + n * v) n w ∙ add-mul-mod-self-left (x + n * u) n v ∙ add-mul-mod-self-left x n u
-
-pub rem-below : (k : ℤ) (n : ℕ) → 0 < n → remEuclid k n < n
-unfolding remEuclid
-rem-below (pos a) n h = mod-lt a h
-rem-below (negsuc a) n h = omega arith
 
 pub rem-on : (k : ℤ) (r n : ℕ) → 0 < n → remEuclid (k +ℤ pos r) n ≡ (remEuclid k n + r % n) % n
 unfolding remEuclid

@@ -21,18 +21,19 @@ use Rattle.geom.specs.Point.{point}
 use Rattle.rules.specs.declared.Settings.{Settings}
 use Rattle.rules.specs.declared.Entry.{Entry}
 use Rattle.geom.specs.Sewing.{flat}
+use Rattle.geom.specs.SewingLaws.{flat-length, flat-append}
 use Rattle.rules.specs.Fill.{cycle, remEuclid, offset, needles, rowPoints, section, sewn}
 use Rattle.rules.specs.Calls.{sewnEnds}
+use Rattle.rules.specs.Stitches.{rem-below}
 use Rattle.sewing.specs.declared.Field.{Field}
 use Rattle.sewing.specs.declared.row.Row.{Row}
 use Rattle.sewing.specs.declared.piece.Thread.{Thread}
 use Rattle.sewing.specs.Sewing.{rowNumber, most, entryAt, entriesIn, numbersIn, firstSections, firstOf, nextOf, Linked, startOf, endOf, rowBy, rowOf, targets, phaseOf, Ready, sewTo, back, sewnFrom}
-use Rattle.sewing.specs.Flat.{flat-length, flat-append}
 use Rattle.sewing.specs.RowLaws.{targets-length, row-points, row-length, needles-length}
 use Rattle.sewing.specs.SewLaws.{sew-least, back-length, sewn-none, sewn-next, sewn-start, sewn-empty}
 use Rattle.sewing.specs.LinkLaws.{first-section, next-section, first-on, first-high, next-low, next-high, next-on}
 use Rattle.sewing.specs.LinkedLaws.{numbers-length, numbers-are, number-at, entries-length, entries-next}
-use Rattle.sewing.proofs.Signs.{phase-is, rem-below}
+use Rattle.sewing.proofs.Signs.{phase-is}
 
 -- ---- a row's stagger
 

@@ -1,6 +1,5 @@
 -- What sewing reads and leaves (Sewing), and what is proved of it.
 pub mod Sewing
-pub mod Flat
 pub mod LinkLaws
 pub mod RowLaws
 pub mod LinkedLaws

@@ -9,14 +9,14 @@ use mathlib.Core.List.{List, [], _∷_, _++_, map, reverse, reverse-cons, revers
 use lib.Dec.{eqb, lit<}
 use lib.IntN.{pos}
 use lib.ListN.{length, length-map, length-append}
-use lib.Ieee.{Float, nan, inf, fin, binary64, add, sub, mul, div, neg, sum, round, toUnsigned, up, down, unlike}
-use lib.Ieee.Scale.{round-same}
+use lib.Ieee.{Float, nan, inf, fin, add, sub, mul, div, neg, sum, round, toUnsigned, up, down, unlike}
 use lib.Ieee.Fits.{up-pos, down-pos}
 use borrow.Author.Tests.{le-ltb, eqb-false}
 use Rattle.numbers.specs.Num.{_⊖_, _⊘_, real, zero64}
 use Rattle.numbers.specs.Order.{negative}
 use Rattle.numbers.specs.Root.{root}
 use Rattle.numbers.specs.Whole.{wholeOf, ceil}
+use Rattle.numbers.specs.Rounded.{round-zero}
 use Rattle.seqs.specs.Lists.{upto, each}
 use Rattle.seqs.specs.Tests.{either}
 use Rattle.seqs.specs.Upto.{upto-length}
@@ -28,8 +28,8 @@ use Rattle.rules.specs.declared.Entry.{Entry}
 use Rattle.geom.specs.Sewing.{flat}
 use Rattle.rules.specs.Fill.{needles, rowPoints, parts, between, sewFrom, sew, sewn}
 use Rattle.geom.specs.Steps.{along}
+use Rattle.geom.specs.SewingLaws.{flat-length, flat-append}
 use Rattle.sewing.specs.Sewing.{forward, startOf, endOf, cuts, way, gap, cutsFor, sewTo, back, sewnFrom}
-use Rattle.sewing.specs.Flat.{flat-length, flat-append}
 
 -- ---- gaps
 
@@ -144,10 +144,6 @@ row-after g stagger e pen = let r = row-ended g stagger e in ap (after pen) (r .
 
 -- ---- the way from a point to itself is not cut: of no float is x - x anything but 0 or nan
 
-null : (s : Bool) (d : ℕ) → 0 < d → round binary64 s 0 d ≡ fin s 0 (pos 0)
-null true d h = round-same binary64 true 0 d 0 1 h (lit< tt) (omega arith) ∙ (unfold round in refl)
-null false d h = round-same binary64 false 0 d 0 1 h (lit< tt) (omega arith) ∙ (unfold round in refl)
-
 self : (x : Float) → (x ⊖ x ≡ zero64) ⊎ (x ⊖ x ≡ nan)
 unfolding sub add neg sum
 self nan = inr refl
@@ -156,11 +152,11 @@ self (inf false) = inr refl
 self (fin true m e) =
     let a = m * up e * down e in
     let z : a - a ≡ 0 = omega arith in
-    inl (rw (le-ltb a a (omega arith), z) (null false (down e * down e) (mul-pos (down-pos e) (down-pos e))))
+    inl (rw (le-ltb a a (omega arith), z) (round-zero false (down e * down e) (mul-pos (down-pos e) (down-pos e))))
 self (fin false m e) =
     let a = m * up e * down e in
     let z : a - a ≡ 0 = omega arith in
-    inl (rw (le-ltb a a (omega arith), z) (null false (down e * down e) (mul-pos (down-pos e) (down-pos e))))
+    inl (rw (le-ltb a a (omega arith), z) (round-zero false (down e * down e) (mul-pos (down-pos e) (down-pos e))))
 
 still : (p : P) → (dist p p ≡ zero64) ⊎ (dist p p ≡ nan)
 unfolding dist len
@@ -189,7 +185,7 @@ none-of-zero (fin t n d) = elim (either (eqb n 0)) [
   | inr e ↦
       let z : 0 * down d ≡ 0 = omega arith in
       let k : 0 < n = omega (arith, eqb-false n 0 e) in
-      rw (e, z, null (unlike false t) (n * up d * 1) (mul-pos (mul-pos k (up-pos d)) (lit< tt))) (no-part (unlike false t))
+      rw (e, z, round-zero (unlike false t) (n * up d * 1) (mul-pos (mul-pos k (up-pos d)) (lit< tt))) (no-part (unlike false t))
 ]
 
 pub cuts-self : (l : Float) (p : P) → cuts l p p ≡ 0

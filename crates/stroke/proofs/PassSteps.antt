@@ -11,12 +11,13 @@ use lib.Ieee.{Float}
 use Rattle.seqs.specs.Front.{Front, front-at, front-take}
 use Rattle.seqs.specs.Slices.{put}
 use Rattle.seqs.specs.Wrote.{put-room}
+use Rattle.seqs.specs.Reverse.{place-below}
 use Rattle.geom.specs.Outline.{points}
 use Rattle.geom.specs.OutlineLaws.{cornerAt}
 use Rattle.geom.specs.Sewing.{flat}
 use Rattle.geom.specs.SewingLaws.{flat-length, points-room, points-put}
 use Rattle.stroke.specs.Running.{pass, passesFrom, standing}
-use Rattle.stroke.specs.RunningLaws.{turned, place-below, pass-length, pass-next, standing-length, standing-kept, passes-next}
+use Rattle.stroke.specs.RunningLaws.{turned, pass-length, pass-next, standing-length, standing-kept, passes-next}
 
 -- point r of a pass over the first n is next
 module _ {d₀ d : List Float} {at : ℕ} (k n : ℕ) (back : Bool) (r : ℕ)

@@ -15,7 +15,7 @@ use Rattle.seqs.specs.Front.{Front, front-kept, next, none}
 use Rattle.seqs.specs.Slices.{put, capped}
 use Rattle.seqs.specs.Capped.{capped-past}
 use Rattle.seqs.specs.Put.{put-length, put-then}
-use Rattle.seqs.specs.Reverse.{getD-reverse}
+use Rattle.seqs.specs.Reverse.{getD-reverse, place-below}
 use Rattle.geom.specs.declared.point.P.{P}
 use Rattle.geom.specs.Outline.{points}
 use Rattle.geom.specs.OutlineLaws.{cornerAt, points-length, points-at}
@@ -40,10 +40,6 @@ turned-at one false r z h = refl
 pub pass-length : (one : List P) (back : Bool) → length (pass one back) ≡ length one - 1
 unfolding pass
 pass-length one back = length-drop 1 (turned one back) ∙ ap (λ (n : ℕ). n - 1) (turned-length one back)
-
-pub place-below : (back : Bool) (r n : ℕ) → r < n → cond back (n - 1 - r) r < n
-place-below true r n h = omega arith
-place-below false r n h = h
 
 -- the n points at the front of d₀, of which a pass writes copies behind the first k numbers
 module _ (d₀ : List Float) (n : ℕ) (has : 2 * n ≤ length d₀) where

@@ -1,7 +1,7 @@
 -- What a squared length tells of its root. Assumes nothing.
 use Prim.Native.Nat.{_^_}
 use mathlib.Core.Path.{_≡_, refl, sym, _∙_}
-use mathlib.Core.Bool.{Bool, true, false}
+use mathlib.Core.Bool.{true, false}
 use mathlib.Core.Logic.{inl, inr}
 use lib.Dec.{T}
 use lib.Ieee.{Float, binary64, round, fits, lt, le, isNan}
@@ -9,7 +9,7 @@ use Rattle.numbers.specs.Num.{_⊗_, literal, zero64}
 use Rattle.numbers.specs.Root.{isqrt, nearRoot, rootUnits, root}
 use Rattle.numbers.specs.Laws as laws
 use Rattle.numbers.specs.Laws.{holds}
-use Rattle.seqs.specs.Tests.{refute}
+use Rattle.seqs.specs.Tests.{refute, is-true}
 use Rattle.geom.specs.declared.point.P.{P}
 use Rattle.geom.specs.Point.{minus, dot, len, dist}
 use Rattle.geom.specs.Steps.{steps}
@@ -30,10 +30,6 @@ past-six : T (lt (literal 6 1) (root past))
 unfolding literal round root rootUnits nearRoot isqrt lt
 past-six = tt
 
-is : (b : Bool) → T b → b ≡ true
-is true h = refl
-is false h = absurd h
-
 not-over-six : (d : Float) → T (fits binary64 d) → T (le d (literal 36 1)) → lt (literal 6 1) (root d) ≡ false
 unfolding literal round lt isNan
 not-over-six d f h = elim (laws.le-or-lt zero64 d tt (laws.le-left d (literal 36 1) h)) [
@@ -43,7 +39,7 @@ not-over-six d f h = elim (laws.le-or-lt zero64 d tt (laws.le-left d (literal 36
 
 over-six : (d : Float) → T (fits binary64 d) → T (le past d) → lt (literal 6 1) (root d) ≡ true
 unfolding literal round
-over-six d f h = is _ (laws.lt-le-trans (literal 6 1) (root past) (root d) past-six (laws.root-mono past d (unfold fits in tt) f (unfold le in tt) h))
+over-six d f h = is-true _ (laws.lt-le-trans (literal 6 1) (root past) (root d) past-six (laws.root-mono past d (unfold fits in tt) f (unfold le in tt) h))
 
 square-fits : (v : P) (d : Float) → d ≡ dot v v → T (fits binary64 d)
 square-fits v d g = rw g (laws.add-fits binary64 (v .x ⊗ v .x) (v .y ⊗ v .y))

@@ -1,13 +1,11 @@
 // The s form: each stitch longer than 6 becomes three, the middle one pushed sideways, to alternate sides.
 ghost use mathlib.Core.Path.{_≡_};
 ghost use mathlib.Core.Bool.{cond};
-ghost use mathlib.Core.List.{[], _∷_, _++_};
-ghost use Prim.Native.Nat.{_+_, _-_, _*_, _^_, _<_, _≤_};
+ghost use Prim.Native.Nat.{_+_, _*_, _^_, _<_, _≤_};
 ghost use lib.ListN.{length};
 ghost use Rattle.refusal.specs.Sewn.{sewn, output};
 ghost use Rattle.seqs.specs.Slices.{put, capped};
 ghost use Rattle.geom.specs.Outline.{points};
-ghost use Rattle.geom.specs.Point.{len, norm};
 ghost use Rattle.geom.specs.Sewing.{flat, fitted};
 ghost use Rattle.satinrules.specs.Column.{bend, bends, sSide, sStitch};
 ghost use Rattle.styles.specs.Sides.{sideTo, laterSides};
@@ -21,24 +19,13 @@ use refusal::DONE;
 use refusal::ROOM;
 use refusal::Sewn;
 
-// The direction of v, whose length is l.
-fn towards(v: P, l: f64) -> P
-    requires { ⌜ l ≡ len v ⌝ }
-    ensures { λ r. ⌜ r ≡ norm v ⌝ }
-{
-    if l > 1e-12 {
-        return v.times(1.0 / l);
-    }
-    P { x: 0.0, y: 0.0 }
-}
-
 // How far side k is pushed sideways. Direction and length take one root.
 fn bend(k: u64, p: P, q: P) -> P
     ensures { λ r. ⌜ r ≡ bend k p q ⌝ }
 {
     let d = q.minus(p);
     let l = d.len();
-    let side = towards(d, l).perp().times(smaller(l * 0.18, 8.0));
+    let side = d.towards(l).perp().times(smaller(l * 0.18, 8.0));
     if k % 2 == 0 {
         return side.times(1.0);
     }

@@ -1,6 +1,6 @@
 -- The sweep, down or up, finds in each row the pieces that the row has alone, wherever rows go one way and a row's crossings have one order.
 -- Assumes nothing.
-use mathlib.Core.Path.{_≡_, refl, sym, ap, _∙_, subst}
+use mathlib.Core.Path.{_≡_, refl, ap, _∙_}
 use mathlib.Core.Bool.{Bool, true, false, _&&_, cond}
 use mathlib.Core.List.{List, [], _∷_, map, List·Permᴰ, IsChain, IsChain·nil, IsChain·singleton, IsChain·cons-cons, isChain-cons-cons}
 use Prim.Native.Nat.{ℕ}
@@ -10,6 +10,7 @@ use lib.ListN.{length}
 use lib.Ieee.{Float, le, lt}
 use lib.Ieee.Bits.{is-true}
 use Rattle.numbers.specs.FloatOrder.{le-trans, le-lt-trans, lt-le-trans}
+use Rattle.numbers.specs.Laws.{holds}
 use Rattle.seqs.specs.Lists.{sift, dropWhile, sortBy, upto, sweepBy, All, Sorted, Strict, Sorts}
 use Rattle.seqs.specs.All.{sorted-map}
 use Rattle.seqs.specs.Sift.{sift-same}
@@ -23,9 +24,6 @@ use Rattle.rules.specs.Fill.{edge, rowAt, starts, lives, byX, crossed, piecesAt
 use Rattle.sweep.specs.declared.key.Key.the-variants.{X}
 use Rattle.sweep.specs.Swept.{ordered, enters, stays, places, swept}
 
-so : {b : Bool} → b ≡ true → T b
-so e = subst T (sym e) tt
-
 -- row z is met after row y
 abbrev pub onward : Bool → Float → Float → Bool
 onward upward y z = cond upward (le z y) (le y z)
@@ -38,14 +36,14 @@ below-at : (upward : Bool) (es : List Edge) (y z : Float) → T (onward upward y
     → ((i : ℕ) → enters upward es y i ≡ true → enters upward es z i ≡ true) × ((i : ℕ) → stays upward es z i ≡ true → stays upward es y i ≡ true)
 unfolding enters stays starts lives
 below-at true es y z h =
-    (λ i t. is-true (lt z (edge es i .y1)) (le-lt-trans z y (edge es i .y1) h (so t)), λ i t. is-true (le (edge es i .y0) y) (le-trans (edge es i .y0) z y (so t) h))
+    (λ i t. is-true (lt z (edge es i .y1)) (le-lt-trans z y (edge es i .y1) h (holds t)), λ i t. is-true (le (edge es i .y0) y) (le-trans (edge es i .y0) z y (holds t) h))
 below-at false es y z h =
-    (λ i t. is-true (le (edge es i .y0) z) (le-trans (edge es i .y0) y z (so t) h), λ i t. is-true (lt y (edge es i .y1)) (le-lt-trans y z (edge es i .y1) h (so t)))
+    (λ i t. is-true (le (edge es i .y0) z) (le-trans (edge es i .y0) y z (holds t) h), λ i t. is-true (lt y (edge es i .y1)) (le-lt-trans y z (edge es i .y1) h (holds t)))
 
 earlier-at : (upward : Bool) (es : List Edge) (i j : ℕ) → T (sooner upward es i j) → (y : Float) → enters upward es y j ≡ true → enters upward es y i ≡ true
 unfolding enters starts lives
-earlier-at true es i j h y t = is-true (lt y (edge es i .y1)) (lt-le-trans y (edge es j .y1) (edge es i .y1) (so t) h)
-earlier-at false es i j h y t = is-true (le (edge es i .y0) y) (le-trans (edge es i .y0) (edge es j .y0) y h (so t))
+earlier-at true es i j h y t = is-true (lt y (edge es i .y1)) (lt-le-trans y (edge es j .y1) (edge es i .y1) (holds t) h)
+earlier-at false es i j h y t = is-true (le (edge es i .y0) y) (le-trans (edge es i .y0) (edge es j .y0) y h (holds t))
 
 -- both tests, in either order
 and-swap : (a b : Bool) → (a && b) ≡ (b && a)

@@ -1,36 +1,34 @@
 -- Mission, demand 3, of every fill that is accepted: the pieces that the code's sweep finds, down or up, are those of each row taken alone.
 -- Assumes nothing.
-use mathlib.Core.Path.{_≡_, refl, sym, ap, _∙_, subst}
+use mathlib.Core.Path.{_≡_, ap, _∙_, subst}
 use mathlib.Core.Bool.{Bool, true, false, not, cond}
-use mathlib.Core.Logic.{⊎-elim}
 use mathlib.Core.List.{List, [], _∷_, map, append-nil, List·Permᴰ, IsChain, IsChain·nil, IsChain·singleton, IsChain·cons-cons}
 use Prim.Native.Nat.{ℕ, zero, suc, _+_, _-_, _^_}
-use lib.Dec.{T, leb}
+use lib.Dec.{T}
 use lib.IntN.{pos, _+ℤ_, _-ℤ_}
 use lib.ListN.{length}
 use lib.Ieee.{Float, nan, inf, fin, binary64, neg, le, lt, fits, isNan}
-use lib.Ieee.Bits.{is-true}
 use lib.Ieee.Fits.{add-fits, neg-fits}
 use Rattle.numbers.specs.Num.{_⊖_, literal}
 use Rattle.numbers.specs.Order.{before, magnitude}
-use Rattle.numbers.specs.OrderLaws.{before-trans, before-asym, before-total, not-before-le}
 use Rattle.numbers.specs.FloatOrder.{neg-le}
-use Rattle.seqs.specs.Lists.{each, fold, insertBack, sortBy, byKey, upto, All, Sorted, Strict, Keyed}
+use Rattle.numbers.specs.Laws.{neg-neg}
+use Rattle.seqs.specs.Lists.{each, fold, insertBack, byKey, upto, All, Sorted, Strict}
 use Rattle.seqs.specs.All.{all-map, all-append, sorted-map}
 use Rattle.seqs.specs.Each.{each-map}
-use Rattle.seqs.specs.Tests.{clash, refute}
-use Rattle.seqs.specs.Sort.{backs-perm, backs-sort, sort-ordered}
+use Rattle.seqs.specs.Sort.{backs-perm, backs-sort}
 use Rattle.seqs.specs.ByKey.{by-key-strict}
 use Rattle.geom.specs.declared.point.P.{P}
 use Rattle.outlines.specs.declared.rule.FillRule.{FillRule}
 use Rattle.geom.specs.Outline.{rings}
 use Rattle.rules.specs.declared.Settings.{Settings}
 use Rattle.rules.specs.declared.Edge.{Edge}
-use Rattle.rules.specs.Fill.{edgeOf, keptSide, sidesTo, sides, turned, edges, edge, noEdge, rowAt, rowNumbers, piecesOf, met}
+use Rattle.rules.specs.Fill.{edgeOf, keptSide, sides, turned, edges, edge, noEdge, rowAt, rowNumbers, piecesOf, met}
 use Rattle.rules.specs.Alls.{all-get, all-parts, all-reverse}
 use Rattle.rules.specs.Accepted.{Accepted, Checked, checked}
-use Rattle.rules.specs.Edges.{within-number, edges-good}
+use Rattle.rules.specs.Edges.{within-number, edges-good, sides-all}
 use Rattle.rules.specs.Rows.{Fair, rows-fair, rows-fall, rows-strict}
+use Rattle.rules.specs.Keys.{keyed, sorted-up}
 use Rattle.edges.specs.declared.rows.Rows.{Rows}
 use Rattle.edges.specs.Span.{rowsOf, rowNumber}
 use Rattle.sweep.specs.declared.key.Key.the-variants.{Top, Bottom}
@@ -38,41 +36,10 @@ use Rattle.sweep.specs.Swept.{keyOf, by, ordered, waiting, numbers, swep
 use Rattle.sweep.specs.Met.{numbers-met, number-on, number-back}
 use Rattle.sweep.specs.Alone.{onward, sooner, swept-alone}
 
-so : {b : Bool} → b ≡ true → T b
-so e = subst T (sym e) tt
-
 -- ---- places in order of keys that are numbers
 
-module _ (key : ℕ → Float) (fit : (i : ℕ) → T (fits binary64 (key i))) (number : (i : ℕ) → T (not (isNan (key i)))) where
-  keyed : Keyed before key
-  keyed = record {
-    one-way = λ i j e. refute (before (key j) (key i)) (λ d. absurd (before-asym (key i) (key j) (so e) (so d)));
-    trans = λ i j k d e. is-true (before (key i) (key k)) (before-trans (key i) (key j) (key k) (so d) (so e));
-    level = λ i j d e. ⊎-elim (λ h. absurd (subst T d h)) (λ r. ⊎-elim (λ h. absurd (subst T e h)) (λ q. q) r) (before-total (key i) (key j) (fit i) (fit j) (number i) (number j));
-  }
-
-  ahead : (a b x : Bool) → (a ≡ true → b ≡ true → ⊥) → cond a true (cond b false x) ≡ true → b ≡ true → ⊥
-  ahead true b x f e d = f refl d
-  ahead false true x f e d = clash e refl
-  ahead false false x f e d = clash d refl
-
-  not-behind : (i j : ℕ) → byKey before key i j ≡ true → T (le (key i) (key j))
-  not-behind i j e =
-      not-before-le (key i) (key j) (number i) (number j)
-      (λ d. ahead (before (key i) (key j)) (before (key j) (key i)) (leb i j) (λ p q. before-asym (key i) (key j) (so p) (so q)) e (is-true (before (key j) (key i)) d))
-
-  pub keys-rise : (l : List ℕ) → Sorted (λ i j. T (le (key i) (key j))) (fold (insertBack (byKey before key)) [] l)
-  keys-rise l =
-      let o = by-key-strict before key keyed in
-      rw (backs-sort (byKey before key) o l) (sorted-map not-behind (sortBy (byKey before key) l) (sort-ordered (byKey before key) (o .total) (o .trans) l))
-
-neg-neg : (x : Float) → neg (neg x) ≡ x
-unfolding neg
-neg-neg nan = refl
-neg-neg (inf true) = refl
-neg-neg (inf false) = refl
-neg-neg (fin true m e) = refl
-neg-neg (fin false m e) = refl
+keys-rise : (key : ℕ → Float) → ((i : ℕ) → T (fits binary64 (key i))) → ((i : ℕ) → T (not (isNan (key i)))) → (l : List ℕ) → Sorted (λ i j. T (le (key i) (key j))) (fold (insertBack (byKey before key)) [] l)
+keys-rise key fit number l = rw (backs-sort (byKey before key) (by-key-strict before key (keyed key fit number)) l) (sorted-up key fit number l)
 
 -- ---- a turned corner's y is an f64, and so is an edge's y1
 
@@ -83,19 +50,6 @@ turned-fit : (g : Settings) (ring : List P) → All Fit (turned g ring)
 unfolding turned
 turned-fit g [] = tt
 turned-fit g (p ∷ ring) = (add-fits binary64 _ _, turned-fit g ring)
-
-to-fit : (z : P) (l : List P) → Fit z → All Fit l → All (λ ab. Fit (ab .0) × Fit (ab .1)) (sidesTo z l)
-unfolding sidesTo
-to-fit z [] k h = tt
-to-fit z (a ∷ []) k h = ((h .0, k), tt)
-to-fit z (a ∷ b ∷ r) k h = ((h .0, h .1 .0), to-fit z (b ∷ r) k (h .1))
-
-sides-fit : (l : List P) → All Fit l → All (λ ab. Fit (ab .0) × Fit (ab .1)) (sides l)
-unfolding sides
-sides-fit [] h = tt
-sides-fit (a ∷ []) h = tt
-sides-fit (a ∷ b ∷ []) h = tt
-sides-fit (a ∷ b ∷ c ∷ r) h = to-fit a (a ∷ b ∷ c ∷ r) (h .0) h
 
 abbrev Ends : Edge → Type 0
 Ends e = T (fits binary64 (e .y0)) × T (fits binary64 (e .y1))
@@ -114,7 +68,7 @@ unfolding edges
 edges-fit g [] = tt
 edges-fit g (ring ∷ outline) =
     all-append Ends (each keptSide (sides (turned g ring))) (edges g outline)
-    (all-parts (λ ab. Fit (ab .0) × Fit (ab .1)) Ends keptSide kept-fit (sides (turned g ring)) (sides-fit (turned g ring) (turned-fit g ring)))
+    (all-parts (λ ab. Fit (ab .0) × Fit (ab .1)) Ends keptSide kept-fit (sides (turned g ring)) (sides-all Fit (turned g ring) (turned-fit g ring)))
     (edges-fit g outline)
 
 -- ---- an accepted fill

@@ -1,7 +1,6 @@
 // Places of edges in order: by a key in total order, and where keys are equal by place. Insertion from the back, for few places and for those that are nearly in order.
 ghost use mathlib.Core.Path.{_≡_};
-ghost use mathlib.Core.Bool.{cond};
-ghost use mathlib.Core.List.{[], _++_};
+ghost use mathlib.Core.List.{_++_};
 ghost use Prim.Native.Nat.{_+_, _*_, _≤_, _<_};
 ghost use lib.ListN.{length, take, drop, getD};
 ghost use Rattle.seqs.specs.Lists.{insertBack};

@@ -1,7 +1,5 @@
 // One row: its places, then its pieces.
-ghost use mathlib.Core.Path.{_≡_};
-ghost use Prim.Native.Nat.{_*_, _≤_};
-ghost use lib.ListN.{length};
+ghost use Prim.Native.Nat.{_*_};
 ghost use Rattle.edges.specs.Table.{edgesIn};
 ghost use Rattle.sweep.specs.Swept.{Rowed, Row};
 use crate::active::Live;

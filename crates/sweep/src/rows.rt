@@ -2,8 +2,8 @@
 ghost use mathlib.Core.Path.{_≡_};
 ghost use mathlib.Core.Bool.{cond};
 ghost use mathlib.Core.List.{[]};
-ghost use Prim.Native.Nat.{_*_, _≤_, _<_};
-ghost use lib.ListN.{length, take};
+ghost use Prim.Native.Nat.{_*_, _<_};
+ghost use lib.ListN.{take};
 ghost use Rattle.seqs.specs.Lists.{Strict};
 ghost use Rattle.edges.specs.Table.{edgesIn};
 ghost use Rattle.edges.specs.Span.{rowNumber, Spanned};

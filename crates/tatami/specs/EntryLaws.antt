@@ -1,5 +1,5 @@
 -- Marked pieces, read back from the slices, are the row list. Assumes nothing.
-use Prim.Native.Nat.{ℕ, zero, suc, _+_, _-_, _*_, _^_, _≤_, _<_}
+use Prim.Native.Nat.{ℕ, zero, suc, _+_, _-_, _*_, _≤_, _<_}
 use native.Mathlib.Omega.{arith}
 use mathlib.Core.Path.{_≡_, refl, sym, ap, _∙_, subst}
 use mathlib.Core.Bool.{Bool, true, false, cond}
@@ -13,7 +13,6 @@ use Rattle.seqs.specs.Slices.{Wrote, Put}
 use Rattle.seqs.specs.All.{all-at, all-append, all-map}
 use Rattle.seqs.specs.Reads.{read-on}
 use Rattle.seqs.specs.Upto.{upto-length}
-use Rattle.geom.specs.declared.point.P.{P}
 use Rattle.geom.specs.Outline.{rings, Layout}
 use Rattle.rules.specs.declared.Piece.{Piece}
 use Rattle.rules.specs.declared.Entry.{Entry}
@@ -28,14 +27,14 @@ use Rattle.rules.specs.Alls.{all-reverse, all-mapped}
 use Rattle.rules.specs.Theorems.{rows-rise, pieces-bounded}
 use Rattle.edges.specs.declared.rows.Rows.{Rows}
 use Rattle.edges.specs.Span.{rowNumber}
-use Rattle.sweep.specs.Swept.{waiting, numbers, swept, sweptAll}
+use Rattle.sweep.specs.Swept.{waiting, numbers, sweptAll}
 use Rattle.sweep.specs.Exact.{sweep-exact}
 use Rattle.sweep.specs.Met.{numbers-met}
 use Rattle.sweep.specs.LaidLaws.{Read, block-at, counts-length, wrote-there, piece-number}
 use Rattle.sections.specs.Mark.{flatMarks, rowsIn as rowsLent, markedIn}
 use Rattle.sections.specs.Marked.{laid-rise, marked-marks, marked-begun, marked-length}
-use Rattle.sewing.specs.Sewing.{rowNumber as sewnRow, entryAt, entriesIn, numbersIn, links, Marked, Linked}
-use Rattle.sewing.specs.LinkedLaws.{entries-kept, entries-length, numbers-are, put-kept, linked}
+use Rattle.sewing.specs.Sewing.{rowNumber as sewnRow, entryAt, entriesIn, numbersIn, links, Marked}
+use Rattle.sewing.specs.LinkedLaws.{entries-kept, numbers-are, put-kept, linked}
 use Rattle.finding.specs.declared.Plan.{Plan}
 use Rattle.finding.specs.Stages.{Passed, alone}
 use Rattle.tatami.specs.Stages.{Lent, fieldOf, Sectioned, listOf, rowsIn}

@@ -13,9 +13,10 @@ use Rattle.geom.specs.Sewing.{flat}
 use Rattle.rules.specs.declared.Settings.{Settings}
 use Rattle.rules.specs.declared.Entry.{Entry}
 use Rattle.rules.specs.Fill.{rowList, tatami}
-use Rattle.rules.specs.Calls.{counted, written, worked, sewnPoints, sewnEnds, tatamiAnswer, listedFloats, listedRows, listedSections, rowListAnswer}
+use Rattle.rules.specs.Calls.{counted, worked, sewnPoints, sewnEnds, tatamiAnswer, listedFloats, listedRows, listedSections, rowListAnswer}
 use Rattle.tatami.specs.declared.Filled.{Filled}
 use Rattle.tatami.specs.declared.Listed.{Listed}
+use Rattle.refusal.specs.Sewn.{output}
 
 -- ---- tatami
 
@@ -35,7 +36,7 @@ left said points ends floats wholes = record { said = said; points = points; end
 
 -- by its number n, of the sections ss and the slices lent
 abbrev pub leftBy : ℕ → List (List P) → List Float → List ℕ → List Float → List ℕ → Left
-leftBy n ss points ends floats wholes = left (filled n ss) (written n (flat (sewnPoints ss)) points) (written n (sewnEnds 0 ss) ends) (worked n zero64 floats) (worked n 0 wholes)
+leftBy n ss points ends floats wholes = left (filled n ss) (output n (flat (sewnPoints ss)) points) (output n (sewnEnds 0 ss) ends) (worked n zero64 floats) (worked n 0 wholes)
 
 unfoldable pub tatamiLeft : List Float → List ℕ → FillRule → Settings → ℕ → Bool → List Float → List ℕ → List Float → List ℕ → Left
 tatamiLeft corners ends rule g stagger bottomUp points sectionEnds floats wholes =
@@ -58,7 +59,7 @@ abbrev pub leftList : Listed → List Float → List ℤ → List ℕ → List F
 leftList said ys rows sections floats wholes = record { said = said; ys = ys; rows = rows; sections = sections; floats = floats; wholes = wholes }
 
 abbrev pub leftListBy : ℕ → List Entry → List Float → List ℤ → List ℕ → List Float → List ℕ → LeftList
-leftListBy n es ys rows sections floats wholes = leftList (listed n es) (written n (listedFloats es) ys) (written n (listedRows es) rows) (written n (listedSections es) sections) (worked n zero64 floats) (worked n 0 wholes)
+leftListBy n es ys rows sections floats wholes = leftList (listed n es) (output n (listedFloats es) ys) (output n (listedRows es) rows) (output n (listedSections es) sections) (worked n zero64 floats) (worked n 0 wholes)
 
 unfoldable pub rowListLeft : List Float → List ℕ → FillRule → Settings → ℕ → Bool → List Float → List ℤ → List ℕ → List Float → List ℕ → LeftList
 rowListLeft corners ends rule g stagger bottomUp ys rows sections floats wholes =

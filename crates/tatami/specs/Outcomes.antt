@@ -1,7 +1,7 @@
 -- What the gate and the stages found is all that a call leaves. Assumes nothing.
 use Prim.Native.Nat.{ℕ, zero, suc, _≤_}
 use native.Mathlib.Omega.{arith}
-use mathlib.Core.Path.{_≡_, refl, sym, ap, _∙_, subst}
+use mathlib.Core.Path.{_≡_, sym, ap, _∙_, subst}
 use mathlib.Core.Bool.{Bool}
 use mathlib.Core.List.{List, _++_}
 use lib.IntN.{ℤ}
@@ -24,7 +24,7 @@ use Rattle.finding.specs.declared.gate.Way.the-variants.{Refused}
 use Rattle.tatami.specs.Left.{left, leftBy, leftList, leftListBy, tatamiLeft, rowListLeft}
 use Rattle.finding.specs.Stages.{Gated, Zeroed}
 use Rattle.tatami.specs.Stages.{Sewed, Noted}
-use Rattle.tatami.specs.RoomLaws.{counted-none, written-none, worked-none, worked-zero}
+use Rattle.tatami.specs.RoomLaws.{counted-none, output-none, worked-none, worked-zero}
 
 -- what is put to the front, said otherwise
 pub front-is : {A : Type 0} (m m′ d : List A) (k : ℕ) {x : List A} → m ≡ m′ → length m ≡ k → x ≡ m ++ drop k d → x ≡ m′ ++ drop (length m′) d
@@ -48,8 +48,8 @@ module _ (corners : List Float) (ends : List ℕ) (rule : FillRule) (g : Setting
         let ss = tatami (rings corners ends) rule g stagger upward in
         let sections = sym (counted-none (h .1) (length ss)) in
         let many = sym (counted-none (h .1) (length (sewnPoints ss))) in
-        let p = sym (written-none (h .1) (flat (sewnPoints ss)) points) in
-        let q = sym (written-none (h .1) (sewnEnds 0 ss) stops) in
+        let p = sym (output-none (h .1) (flat (sewnPoints ss)) points) in
+        let q = sym (output-none (h .1) (sewnEnds 0 ss) stops) in
         let zf = sym (worked-none (h .1) zero64 floats (h .2)) in
         let zw = sym (worked-none (h .1) 0 wholes (h .2)) in
         (λ i. left (record { answer = n; sections = sections i; points = many i }) (p i) (q i) (zf i) (zw i)) ∙ ap (λ n. leftBy n ss points stops floats wholes) (sym (stopped n _ (h .0) (h .1)))
@@ -74,9 +74,9 @@ module _ (corners : List Float) (ends : List ℕ) (rule : FillRule) (g : Setting
         let h = subst (Gated corners ends g stagger) e f in
         let es = rowList (rings corners ends) rule g upward in
         let many = sym (counted-none (h .1) (length es)) in
-        let p = sym (written-none (h .1) (listedFloats es) ys) in
-        let q = sym (written-none (h .1) (listedRows es) rows) in
-        let u = sym (written-none (h .1) (listedSections es) sections) in
+        let p = sym (output-none (h .1) (listedFloats es) ys) in
+        let q = sym (output-none (h .1) (listedRows es) rows) in
+        let u = sym (output-none (h .1) (listedSections es) sections) in
         let zf = sym (worked-none (h .1) zero64 floats (h .2)) in
         let zw = sym (worked-none (h .1) 0 wholes (h .2)) in
         (λ i. leftList (record { answer = n; pieces = many i }) (p i) (q i) (u i) (zf i) (zw i)) ∙ ap (λ n. leftListBy n es ys rows sections floats wholes) (sym (stopped n _ (h .0) (h .1)))

@@ -4,12 +4,13 @@ use native.Mathlib.Omega.{arith}
 use mathlib.Core.Path.{_≡_, refl, sym, ap, _∙_, subst}
 use mathlib.Core.Bool.{Bool, true, false, not, _&&_, _||_, cond, and-false}
 use mathlib.Core.List.{List, map}
-use lib.Dec.{ltb, leb, eqb}
+use lib.Dec.{ltb, leb}
 use lib.ListN.{length, take, drop, replicate, length-map, length-drop}
 use lib.IntN.{ℤ}
 use lib.Ieee.{Float}
 use borrow.Author.Tests.{le-ltb, le-leb, lt-leb, leb-true, ne-eqb}
 use Rattle.refusal.specs.Refusal.{DONE, WORK, ROOM, unless}
+use Rattle.refusal.specs.Sewn.{output}
 use Rattle.seqs.specs.Lists.{upto}
 use Rattle.seqs.specs.Slices.{capped}
 use Rattle.seqs.specs.Tests.{and-both}
@@ -21,8 +22,9 @@ use Rattle.outlines.specs.declared.rule.FillRule.{FillRule}
 use Rattle.geom.specs.Outline.{rings}
 use Rattle.rules.specs.declared.Settings.{Settings}
 use Rattle.rules.specs.declared.Entry.{Entry}
-use Rattle.rules.specs.Fill.{edges, section, rowList, sewn, tatami, needFloats, needWholes, roomed}
-use Rattle.rules.specs.Calls.{counted, written, worked, sewnPoints, listFits}
+use Rattle.rules.specs.Fill.{edges, section, rowList, sewn, needFloats, needWholes, roomed}
+use Rattle.rules.specs.Calls.{counted, worked, sewnPoints, listFits}
+use Rattle.rules.specs.CallLaws.{room-told}
 use Rattle.sewing.specs.declared.Field.{Field}
 use Rattle.sewing.specs.Sewing.{entriesIn, Linked}
 use Rattle.sewing.specs.Tatami.{sewn-tatami}
@@ -57,11 +59,7 @@ module _ (corners : List Float) (ends : List ℕ) (t : Plan) {d : List Float} {a
           le-ltb floats (needFloats edgesOf piecesOf) (omega (arith, k .floats, k .count, k .pieces, sf)),
           le-ltb wholes (needWholes edgesOf piecesOf) (omega (arith, k .wholes, k .count, k .pieces, sw)),
         )
-        (go fits)
-      where
-        go : (b : Bool) → cond (not b) ROOM DONE ≡ unless ROOM b
-        go true = refl
-        go false = refl
+        (room-told fits)
 
     pub held-few : Passed corners ends t → e ≤ 1024
     held-few p = omega (arith, held .count, few-edges corners ends t p)
@@ -133,8 +131,8 @@ module _ {n : ℕ} (h : 1 ≤ n) where
   pub counted-none : (c : ℕ) → counted n c ≡ 0
   counted-none c = rw (ne-eqb n 0 (λ e. omega arith))
 
-  pub written-none : {A : Type 0} (answer out : List A) → written n answer out ≡ out
-  written-none answer out = rw (ne-eqb n 0 (λ e. omega arith))
+  pub output-none : {A : Type 0} (answer out : List A) → output n answer out ≡ out
+  output-none answer out = rw (ne-eqb n 0 (λ e. omega arith))
 
   pub worked-none : {A : Type 0} (z : A) (l : List A) → n ≤ 5 → worked n z l ≡ l
   worked-none z l k = rw (le-leb 1 n h, le-leb n 5 k)

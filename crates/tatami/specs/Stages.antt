@@ -7,13 +7,14 @@ use lib.ListN.{length, getD}
 use lib.Ieee.{Float}
 use lib.IntN.{ℤ}
 use Rattle.refusal.specs.Refusal.{ROOM, unless}
+use Rattle.refusal.specs.Sewn.{output}
 use Rattle.seqs.specs.Lists.{upto}
 use Rattle.geom.specs.declared.point.P.{P}
 use Rattle.geom.specs.Outline.{rings}
 use Rattle.geom.specs.Sewing.{flat}
 use Rattle.rules.specs.declared.Entry.{Entry}
 use Rattle.rules.specs.Fill.{begun, rowList, sewn, tatami}
-use Rattle.rules.specs.Calls.{written, sewnPoints, sewnEnds, sewnFits, listedFloats, listedRows, listedSections, listFits}
+use Rattle.rules.specs.Calls.{sewnPoints, sewnEnds, sewnFits, listedFloats, listedRows, listedSections, listFits}
 use Rattle.edges.specs.declared.rows.Rows.{Rows}
 use Rattle.edges.specs.Span.{rowNumber}
 use Rattle.sections.specs.Mark.{Laid}
@@ -51,7 +52,7 @@ tatamiOf corners ends t = tatami (rings corners ends) (t .rule) (t .g) (t .stagg
 
 -- what sewing the sections ss says and leaves in the outputs, by the number n
 abbrev pub Sewed : ℕ → List (List P) → List Float → List Float → List ℕ → List ℕ → Filled → Type 0
-Sewed n ss points points′ ends ends′ r = (r ≡ filled n ss) × (points′ ≡ written n (flat (sewnPoints ss)) points) × (ends′ ≡ written n (sewnEnds 0 ss) ends)
+Sewed n ss points points′ ends ends′ r = (r ≡ filled n ss) × (points′ ≡ output n (flat (sewnPoints ss)) points) × (ends′ ≡ output n (sewnEnds 0 ss) ends)
 
 -- ROOM, unless the outputs have room
 abbrev pub sewnRoom : List (List P) → List Float → List ℕ → ℕ
@@ -69,7 +70,7 @@ rowsIn w upward n numbers = map (λ j. rowNumber w upward (getD numbers j 0)) (u
 -- what listing the entries es says and leaves in the outputs, by the number k
 abbrev pub Noted : ℕ → List Entry → List Float → List Float → List ℤ → List ℤ → List ℕ → List ℕ → Listed → Type 0
 Noted k es ys ys′ rows rows′ sections sections′ r =
-    (r ≡ listed k es) × (ys′ ≡ written k (listedFloats es) ys) × (rows′ ≡ written k (listedRows es) rows) × (sections′ ≡ written k (listedSections es) sections)
+    (r ≡ listed k es) × (ys′ ≡ output k (listedFloats es) ys) × (rows′ ≡ output k (listedRows es) rows) × (sections′ ≡ output k (listedSections es) sections)
 
 abbrev pub listRoom : ℕ → List Float → List ℤ → List ℕ → ℕ
 listRoom n ys rows sections = unless ROOM (listFits n (length ys) (length rows) (length sections))

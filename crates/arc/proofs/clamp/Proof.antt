@@ -1,5 +1,4 @@
 use Rattle.satinrules.specs.Arc.{clamp}
-use borrow.Author.Needs.{needs}
 use Rattle.arc.proofs.clamp.Statement.{statement}
 use Rattle.arc.proofs.clamp.Tie as tie
 

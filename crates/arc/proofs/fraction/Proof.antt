@@ -2,7 +2,6 @@ use lib.Ieee.{ofBits, round}
 use Rattle.numbers.specs.Num.{literal}
 use Rattle.geom.specs.Point.{tiny}
 use Rattle.satinrules.specs.Arc.{fraction}
-use borrow.Author.Needs.{needs}
 use Rattle.arc.proofs.fraction.Statement.{statement}
 use Rattle.arc.proofs.fraction.Tie as tie
 

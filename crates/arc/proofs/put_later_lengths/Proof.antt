@@ -1,5 +1,5 @@
 -- `put_later_lengths` meets its contract: the running lengths of the corners from i on are to be written from `to` on. Assumes nothing.
-use Prim.Native.Nat.{_+_, _-_, _≤_}
+use Prim.Native.Nat.{_-_, _≤_}
 use native.Mathlib.Omega.{arith}
 use mathlib.Core.List.{_++_}
 use lib.ListN.{length, take, drop}

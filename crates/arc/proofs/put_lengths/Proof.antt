@@ -1,7 +1,6 @@
 -- `put_lengths` meets its contract: a zero, and then the later lengths. Assumes nothing.
-use mathlib.Core.Path.{_≡_, refl, sym, ap, _∙_}
 use native.Mathlib.Omega.{arith}
-use lib.ListN.{length, length-set}
+use lib.ListN.{length-set}
 use lib.Ieee.{ofBits}
 use Rattle.seqs.specs.Put.{put-none}
 use Rattle.arc.specs.RailLaws.{lengths-none}

@@ -1,8 +1,6 @@
 -- `count` meets its contract: the runs of the line from corner i on are still to be counted. Assumes nothing.
 use native.Mathlib.Omega.{arith}
-use mathlib.Core.Path.{_≡_, refl, sym, ap, _∙_}
-use mathlib.Core.List.{_++_}
-use mathlib.Core.Bool.{false}
+use mathlib.Core.Path.{_≡_, ap, _∙_}
 use Prim.Native.Nat.{_+_, _-_, _^_, _≤_, _<_}
 use lib.ListN.{length, drop, length-append}
 use Rattle.geom.specs.Outline.{points, rings}

@@ -2,7 +2,6 @@
 use mathlib.Core.Path.{sym, _∙_}
 use lib.Ieee.{ofBits, ofInt, round}
 use Rattle.patterns_rules.specs.Patterns.{pieceInside}
-use borrow.Author.Needs.{needs}
 use Rattle.clip.proofs.piece_inside.Statement.{statement}
 use Rattle.clip.proofs.piece_inside.Tie as tie
 

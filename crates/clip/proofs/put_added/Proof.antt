@@ -1,13 +1,12 @@
 -- `put_added` meets its contract. Assumes nothing.
 use native.Mathlib.Omega.{arith}
-use mathlib.Core.Path.{_≡_, refl, ap, _∙_}
+use mathlib.Core.Path.{refl, ap, _∙_}
 use mathlib.Core.List.{[], _∷_}
-use Prim.Native.Nat.{_+_, _*_, _≤_}
+use Prim.Native.Nat.{_+_, _*_}
 use lib.ListN.{length}
 use Rattle.seqs.specs.Put.{put-none, put-then, put-length}
 use Rattle.geom.specs.Sewing.{flat}
 use Rattle.geom.specs.SewingLaws.{flat-length}
-use Rattle.clip.specs.Clip.{added}
 use borrow.Author.Needs.{needs}
 use Rattle.clip.proofs.put_added.Statement.{statement}
 use Rattle.clip.proofs.put_added.Tie as tie

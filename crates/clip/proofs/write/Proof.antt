@@ -1,6 +1,6 @@
 -- `write` meets its contract: the runs of the line from corner i on are still to be written. Assumes nothing.
 use native.Mathlib.Omega.{arith}
-use mathlib.Core.Path.{_≡_, refl, sym, ap, _∙_}
+use mathlib.Core.Path.{_≡_, refl}
 use mathlib.Core.Bool.{false}
 use Prim.Native.Nat.{_+_, _-_, _*_, _^_, _≤_, _<_}
 use lib.ListN.{length, drop}
@@ -10,8 +10,8 @@ use Rattle.outlines.specs.Inside.{pointInside}
 use Rattle.geom.specs.Sewing.{flat}
 use Rattle.geom.specs.SewingLaws.{flat-none}
 use Rattle.rules.specs.Calls.{sewnPoints, sewnEnds}
+use Rattle.rules.specs.CallLaws.{ends-length}
 use Rattle.patterns_rules.specs.Answers.{countOf, leftPoints, leftEnds}
-use Rattle.patterns_rules.specs.LineLaws.{ends-length}
 use Rattle.clip.specs.Clip.{clipped, ended, pointsFrom, endsFrom}
 use Rattle.clip.specs.ClipLaws.{clip-none, clip-points, clip-ends, points-stop}
 use Rattle.clip.proofs.Turns.{added-room, added-put, ended-room, ended-put, last-room, last-put, all-counted}

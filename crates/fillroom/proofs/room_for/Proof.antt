@@ -1,6 +1,5 @@
 -- `room_for` meets its contract: nothing overflows. Assumes nothing.
 use native.Mathlib.Omega.{arith}
-use Rattle.rules.specs.Fill.{needFloats, needWholes}
 use Rattle.fillroom.specs.Room.{roomFor}
 use Rattle.fillroom.specs.RoomLaws.{few-pieces}
 use mathlib.Core.Path.{refl}

@@ -3,10 +3,10 @@ use Rattle.refusal.specs.Refusal.{done}
 use Rattle.limits.specs.LimitsLaws.{outline-layout}
 use Rattle.patterns_rules.specs.Answers.{boundsAnswer}
 use Rattle.cross.specs.BoundLaws.{bounds-are}
-use Rattle.patterns.proofs.Checks.{passed, failed}
 use borrow.Author.Needs.{needs}
 use Rattle.patterns.proofs.bounds.Statement.{statement}
 use Rattle.patterns.proofs.bounds.Tie as tie
+use Rattle.seqs.specs.Tests.{passed, failed}
 
 returns : tie.Need-returns
 unfolding boundsAnswer

@@ -2,10 +2,10 @@
 use mathlib.Core.Path.{refl}
 use Rattle.limits.specs.LimitsLaws.{outline-layout}
 use Rattle.patterns_rules.specs.Answers.{clipRefusal, clipSaid, clipPoints, clipEnds, saidLines, leftPoints, leftEnds}
-use Rattle.patterns.proofs.Checks.{passed, failed}
 use borrow.Author.Needs.{needs}
 use Rattle.patterns.proofs.clip_inside.Statement.{statement}
 use Rattle.patterns.proofs.clip_inside.Tie as tie
+use Rattle.seqs.specs.Tests.{passed, failed}
 
 returns : tie.Need-returns
 unfolding clipRefusal clipSaid clipPoints clipEnds saidLines leftPoints leftEnds

@@ -3,11 +3,11 @@ use mathlib.Core.Path.{refl}
 use Rattle.limits.specs.LimitsLaws.{outline-layout}
 use Rattle.patterns_rules.specs.Patterns.{crossStitch}
 use Rattle.patterns_rules.specs.Answers.{crossRefusal, crossSaid, crossPoints, crossEnds, saidLines, leftPoints, leftEnds}
-use Rattle.patterns.proofs.Checks.{passed, failed}
 use Rattle.patterns.proofs.Sized.{too-wide, too-tall, grid-is, good, is-laid}
 use borrow.Author.Needs.{needs}
 use Rattle.patterns.proofs.cross_stitch.Statement.{statement}
 use Rattle.patterns.proofs.cross_stitch.Tie as tie
+use Rattle.seqs.specs.Tests.{passed, failed}
 
 returns : tie.Need-returns
 unfolding crossRefusal crossSaid crossPoints crossEnds saidLines leftPoints leftEnds

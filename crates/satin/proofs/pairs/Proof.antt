@@ -1,5 +1,5 @@
 -- `pairs` meets its contract: each answer follows from the tests on the way to it. Assumes nothing.
-use mathlib.Core.Path.{_≡_, refl, sym, ap, _∙_}
+use mathlib.Core.Path.{refl, sym, ap, _∙_}
 use native.Mathlib.Omega.{arith}
 use lib.ListN.{length, length-replicate}
 use borrow.Author.Tests.{not-true, not-false, ne-eqb}

@@ -1,5 +1,5 @@
 -- `good_satin` meets its contract: each answer follows from the tests on the way to it. Assumes nothing.
-use mathlib.Core.Path.{_≡_, refl, sym, _∙_}
+use mathlib.Core.Path.{_≡_, sym, _∙_}
 use mathlib.Core.Bool.{false}
 use borrow.Author.Tests.{not-true, not-false}
 use Rattle.satinrules.specs.Settings.{goodSatin}

@@ -1,4 +1,3 @@
-use mathlib.Core.Path.{refl, sym, _∙_}
 use Rattle.satinrules.specs.Settings.{goodSplitSet}
 use borrow.Author.Needs.{needs}
 use Rattle.satinrules.proofs.good_split_set.Statement.{statement}

@@ -2,7 +2,6 @@ use mathlib.Core.Path.{_≡_}
 use mathlib.Core.Bool.{true}
 use lib.Ieee.{ofBits, eq}
 use Rattle.satinrules.specs.Settings.{splitOf}
-use borrow.Author.Needs.{needs}
 use Rattle.satinrules.proofs.split_of.Statement.{statement}
 use Rattle.satinrules.proofs.split_of.Tie as tie
 

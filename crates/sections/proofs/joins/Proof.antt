@@ -1,8 +1,8 @@
-use mathlib.Core.Path.{_≡_, sym, ap, _∙_}
+use mathlib.Core.Path.{sym, _∙_}
 use native.Mathlib.Omega.{arith}
 use borrow.Author.Tests.{not-true, not-false}
 use Rattle.geom.specs.Outline.{rings}
-use Rattle.sections.specs.Mark.{pieceIn, over, Within}
+use Rattle.sections.specs.Mark.{pieceIn, over}
 use Rattle.sections.specs.RiseLaws.{only-at, joins-nothing, joins-at}
 use borrow.Author.Needs.{needs}
 use Rattle.sections.proofs.joins.Statement.{statement}

@@ -2,7 +2,6 @@ use mathlib.Core.Path.{_≡_}
 use mathlib.Core.Bool.{false}
 use lib.Ieee.{lt}
 use Rattle.rules.specs.Fill.{overlap}
-use borrow.Author.Needs.{needs}
 use Rattle.sections.proofs.overlap.Statement.{statement}
 use Rattle.sections.proofs.overlap.Tie as tie
 

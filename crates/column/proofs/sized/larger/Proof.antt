@@ -1,5 +1,4 @@
 use borrow.Author.Tests.{le-leb, lt-leb}
-use borrow.Author.Needs.{needs}
 use Rattle.column.proofs.sized.larger.Statement.{statement}
 use Rattle.column.proofs.sized.larger.Tie as tie
 

@@ -1,5 +1,4 @@
 use native.Mathlib.Omega.{arith}
-use borrow.Author.Needs.{needs}
 use Rattle.column.proofs.sized.places_if.Statement.{statement}
 use Rattle.column.proofs.sized.places_if.Tie as tie
 

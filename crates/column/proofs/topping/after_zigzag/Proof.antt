@@ -2,7 +2,6 @@ use Prim.Native.Nat.{_/_, _%_}
 use borrow.Author.Tests.{eq-eqb, ne-eqb}
 use Rattle.satinrules.specs.Column.{afterZigzag}
 use Rattle.satin.specs.UnderlayLaws.{end-is}
-use borrow.Author.Needs.{needs}
 use Rattle.column.proofs.topping.after_zigzag.Statement.{statement}
 use Rattle.column.proofs.topping.after_zigzag.Tie as tie
 

@@ -1,6 +1,5 @@
 -- `put_top` meets its contract: what is turned round is what was just put. Assumes nothing.
 use mathlib.Core.Path.{sym, _∙_}
-use Prim.Native.Nat.{_-_}
 use native.Mathlib.Omega.{arith}
 use lib.ListN.{length-reverse}
 use Rattle.geom.specs.Outline.{points}

@@ -1,6 +1,5 @@
 use lib.Ieee.{ofBits}
 use Rattle.patterns_rules.specs.Patterns.{cellInside}
-use borrow.Author.Needs.{needs}
 use Rattle.cross.proofs.cells.cell_inside.Statement.{statement}
 use Rattle.cross.proofs.cells.cell_inside.Tie as tie
 

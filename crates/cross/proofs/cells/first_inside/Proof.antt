@@ -1,7 +1,7 @@
 -- `first_inside` meets its contract: no cell from i up to j is inside. Assumes nothing.
 use native.Mathlib.Omega.{arith}
 use mathlib.Core.Path.{_≡_, refl, sym, _∙_}
-use Prim.Native.Nat.{ℕ, _-_, _≤_}
+use Prim.Native.Nat.{_-_, _≤_}
 use Rattle.geom.specs.Outline.{rings}
 use Rattle.patterns_rules.specs.Patterns.{cellInside}
 use Rattle.cross.specs.Cells.{runsIn}

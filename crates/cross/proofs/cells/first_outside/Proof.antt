@@ -1,6 +1,6 @@
 -- `first_outside` meets its contract: all cells from i up to j are inside. Assumes nothing.
 use native.Mathlib.Omega.{arith}
-use mathlib.Core.Path.{_≡_, refl, sym, _∙_}
+use mathlib.Core.Path.{_≡_, sym, _∙_}
 use mathlib.Core.Bool.{true}
 use Prim.Native.Nat.{ℕ, _-_, _≤_, _<_}
 use Rattle.geom.specs.Outline.{rings}

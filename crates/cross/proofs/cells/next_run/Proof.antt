@@ -1,4 +1,3 @@
-use native.Mathlib.Omega.{arith}
 use Rattle.geom.specs.Outline.{rings}
 use Rattle.patterns_rules.specs.Patterns.{cellInside}
 use Rattle.cross.specs.RunLaws.{next-none, next-run}

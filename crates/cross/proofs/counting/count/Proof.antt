@@ -1,6 +1,6 @@
 -- `count` meets its contract: the rows from r on are still to be counted. Assumes nothing.
 use native.Mathlib.Omega.{arith}
-use mathlib.Core.Path.{_≡_, refl, sym, ap, _∙_}
+use mathlib.Core.Path.{_≡_, ap, _∙_}
 use Prim.Native.Nat.{_+_, _-_, _*_, _≤_}
 use lib.ListN.{length, length-append}
 use Rattle.geom.specs.Outline.{rings}

@@ -1,6 +1,7 @@
 -- `count_runs` meets its contract: the runs of the cells from i on are still to be counted. Assumes nothing.
 use native.Mathlib.Omega.{arith}
-use mathlib.Core.Path.{_≡_, refl, sym, ap, _∙_}
+use native.Mathlib.Nat.{pos-of-ne-zero}
+use mathlib.Core.Path.{_≡_, ap}
 use Prim.Native.Nat.{_+_, _-_, _*_, _≤_}
 use lib.ListN.{length}
 use Rattle.geom.specs.Outline.{rings}
@@ -8,7 +9,6 @@ use Rattle.rules.specs.Calls.{sewnPoints}
 use Rattle.patterns_rules.specs.Patterns.{rowLines}
 use Rattle.patterns_rules.specs.Answers.{countOf}
 use Rattle.cross.specs.Cells.{linesIn}
-use Rattle.cross.proofs.Turns.{positive}
 use Rattle.cross.specs.RowLaws.{lines-start, lines-none, lines-ended, lines-count, points-count}
 use borrow.Author.Needs.{needs}
 use Rattle.cross.proofs.counting.count_runs.Statement.{statement}
@@ -56,7 +56,7 @@ loop-less c = omega (arith, c .before .before .before .before .next-run .ensures
 loop-again : tie.Need-loop-again Inv-loop μ-loop
 loop-again c =
     let a = c .before .before .before .before .before .before .before .before .before .before .args in let l = c .before .before .before .before .before .before .loop in
-    let some = positive (c .before .before .before .before .next-run .result .many) (c .before .before .if1 .left) in
+    let some = pos-of-ne-zero (c .before .before .if1 .left) in
     let n = lines-count (rings (a .corners .now) (a .ends .now)) (a .rule) (a .g) (a .y) (c .before .before .before .before .next-run .ensures) some in
     let m = points-count (rings (a .corners .now) (a .ends .now)) (a .rule) (a .g) (a .y) (c .before .before .before .before .next-run .ensures) some in
     (c .before .before .before .before .next-run .ensures .high, omega (arith, c .before .before .before .before .next-run .ensures .low, l .inv .1, some), omega (arith, c .before .before .before .before .next-run .ensures .low, l .inv .2), omega (arith, n, l .inv .3), omega (arith, m, l .inv .4))

@@ -1,8 +1,9 @@
 use mathlib.Core.Path.{sym, _∙_}
-use Rattle.cross.specs.GridLaws.{cast-back, grid-some, grid-none}
+use Rattle.cross.specs.GridLaws.{grid-some, grid-none}
 use borrow.Author.Needs.{needs}
 use Rattle.cross.proofs.grid.grid_of.Statement.{statement}
 use Rattle.cross.proofs.grid.grid_of.Tie as tie
+use Rattle.seqs.specs.Signed.{cast-back}
 
 returns : tie.Need-returns
 returns c =

@@ -1,7 +1,6 @@
 use mir.Syntax.{w64}
 use mir.ValLaws.{toZ-ofZ}
 use Rattle.cross.specs.GridLaws.{many-none, many-over, gap-low, gap-high, gap-about, gap-below, gap-above}
-use borrow.Author.Needs.{needs}
 use Rattle.cross.proofs.grid.how_many.Statement.{statement}
 use Rattle.cross.proofs.grid.how_many.Tie as tie
 

@@ -1,4 +1,3 @@
-use borrow.Author.Needs.{needs}
 use Rattle.cross.proofs.grid.least.Statement.{statement}
 use Rattle.cross.proofs.grid.least.Tie as tie
 

@@ -1,4 +1,3 @@
-use borrow.Author.Needs.{needs}
 use Rattle.cross.proofs.grid.most.Statement.{statement}
 use Rattle.cross.proofs.grid.most.Tie as tie
 

@@ -1,6 +1,5 @@
 -- `ordered_bounds` meets its contract: the corners from i on are still to widen it. Assumes nothing.
-use native.Mathlib.Omega.{arith}
-use mathlib.Core.Path.{_≡_, refl, sym, ap, _∙_}
+use mathlib.Core.Path.{_≡_, refl, sym, _∙_}
 use Prim.Native.Nat.{_-_, _≤_}
 use lib.ListN.{length, drop}
 use lib.Ieee.{ofBits, nanBits}

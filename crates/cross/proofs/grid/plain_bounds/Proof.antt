@@ -1,5 +1,4 @@
 -- `plain_bounds` meets its contract: the corners from i on are still to widen bounds that are alike. Assumes nothing.
-use native.Mathlib.Omega.{arith}
 use mathlib.Core.Path.{_≡_, refl, sym, subst, _∙_}
 use mathlib.Core.Logic.{inl}
 use Prim.Native.Nat.{_+_, _-_, _≤_}

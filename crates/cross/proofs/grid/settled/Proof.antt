@@ -1,7 +1,6 @@
 use mathlib.Core.Path.{_≡_, sym}
 use mathlib.Core.Bool.{true, false, true≢false}
 use lib.Ieee.{ofBits}
-use borrow.Author.Needs.{needs}
 use Rattle.cross.proofs.grid.settled.Statement.{statement}
 use Rattle.cross.proofs.grid.settled.Tie as tie
 

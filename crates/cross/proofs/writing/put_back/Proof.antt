@@ -1,12 +1,12 @@
 -- `put_back` meets its contract: the cells from t on are still to be written. Assumes nothing.
 use native.Mathlib.Omega.{arith}
-use mathlib.Core.Path.{_≡_, refl, sym, ap, _∙_}
+use mathlib.Core.Path.{_≡_, ap}
 use mathlib.Core.List.{_++_, reverse}
 use Prim.Native.Nat.{_+_, _-_, _*_, _≤_}
-use lib.ListN.{length, take, drop, length-reverse}
+use lib.ListN.{take, drop, length-reverse}
 use Rattle.seqs.specs.Lists.{upto, each}
 use Rattle.seqs.specs.Upto.{upto-length}
-use Rattle.seqs.specs.Front.{Front, front-from, front-at, front-end}
+use Rattle.seqs.specs.Front.{Front, front-from, front-at}
 use Rattle.seqs.specs.Wrote.{put-end}
 use Rattle.geom.specs.Sewing.{flat}
 use Rattle.geom.specs.SewingLaws.{flat-length, flat-none}

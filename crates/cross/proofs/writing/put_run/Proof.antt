@@ -1,8 +1,8 @@
 use native.Mathlib.Omega.{arith}
-use mathlib.Core.Path.{refl, sym, ap, _∙_}
+use mathlib.Core.Path.{sym, ap, _∙_}
 use mathlib.Core.List.{reverse}
 use Prim.Native.Nat.{_+_, _*_}
-use lib.ListN.{length, length-reverse}
+use lib.ListN.{length}
 use Rattle.seqs.specs.Lists.{upto, each}
 use Rattle.seqs.specs.Upto.{upto-length}
 use Rattle.seqs.specs.Slices.{put}
@@ -10,7 +10,7 @@ use Rattle.seqs.specs.Put.{put-then, put-length}
 use Rattle.geom.specs.Sewing.{flat}
 use Rattle.geom.specs.SewingLaws.{flat-length, flat-append}
 use Rattle.patterns_rules.specs.Patterns.{outOver, backOver, outAndBack}
-use Rattle.cross.specs.RowLaws.{half-out, half-back}
+use Rattle.cross.specs.RowLaws.{half-out}
 use borrow.Author.Needs.{needs}
 use Rattle.cross.proofs.writing.put_run.Statement.{statement}
 use Rattle.cross.proofs.writing.put_run.Tie as tie

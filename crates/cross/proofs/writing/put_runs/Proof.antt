@@ -1,19 +1,19 @@
 -- `put_runs` meets its contract: the runs of the cells from i on are still to be written. Assumes nothing.
 use native.Mathlib.Omega.{arith}
-use mathlib.Core.Path.{_≡_, refl, sym, ap, _∙_}
+use native.Mathlib.Nat.{pos-of-ne-zero}
 use mathlib.Core.List.{_++_}
-use Prim.Native.Nat.{_+_, _-_, _*_, _^_, _≤_, _<_}
+use Prim.Native.Nat.{_-_, _*_, _^_, _≤_, _<_}
 use lib.ListN.{length, take}
-use Rattle.seqs.specs.Front.{Front, front-from, front-at}
+use Rattle.seqs.specs.Front.{Front, front-from}
 use Rattle.seqs.specs.Wrote.{put-room}
 use Rattle.geom.specs.Outline.{rings}
 use Rattle.geom.specs.Sewing.{flat}
 use Rattle.rules.specs.Calls.{sewnPoints, sewnEnds}
+use Rattle.rules.specs.CallLaws.{ends-length}
 use Rattle.patterns_rules.specs.Patterns.{rowLines}
-use Rattle.patterns_rules.specs.LineLaws.{ends-length}
 use Rattle.cross.specs.Cells.{linesIn}
 use Rattle.cross.specs.RowLaws.{lines-start, lines-none, lines-ended}
-use Rattle.cross.proofs.Turns.{positive, run-room, run-put, stop-room, stop-put, rows-put}
+use Rattle.cross.proofs.Turns.{run-room, run-put, stop-room, stop-put, rows-put}
 use borrow.Author.Needs.{needs}
 use Rattle.cross.proofs.writing.put_runs.Statement.{statement}
 use Rattle.cross.proofs.writing.put_runs.Tie as tie
@@ -50,7 +50,7 @@ mul-put-run c = record { fits = omega (arith, c .before .before .before .before 
 put-run-requires : tie.Need-put-run-requires Inv-loop μ-loop
 put-run-requires c κs =
     let a = c .before .before .before .before .before .before .before .before .before .before .before .args in let l = c .before .before .before .before .before .loop in
-    let some = positive (c .before .before .before .next-run .result .many) (c .before .if1 .left) in
+    let some = pos-of-ne-zero (c .before .if1 .left) in
     (c .before .before .before .before .before .before .before .before .before .before .before .pre .1, c .before .before .before .next-run .ensures .high, run-room (rings (a .corners .now) (a .ends .now)) (a .rule) (a .g) (a .y) (c .before .before .before .next-run .ensures) some (l .at) (l .inv .1) (put-room (a .out .now) (flat (sewnPoints (rowLines (rings (a .corners .now) (a .ends .now)) (a .rule) (a .g) (a .y)))) (2 * a .done .points) (c .before .before .before .before .before .before .before .before .before .before .before .pre .2)))
 
 mul-at : tie.Need-mul-at Inv-loop μ-loop
@@ -59,13 +59,13 @@ mul-at c = record { fits = omega (arith, c .before .before .before .before .befo
 add-at : tie.Need-add-at Inv-loop μ-loop
 add-at c =
     let a = c .before .before .before .before .before .before .before .before .before .before .before .before .before .before .before .args in let l = c .before .before .before .before .before .before .before .before .before .loop in
-    let some = positive (c .before .before .before .before .before .before .before .next-run .result .many) (c .before .before .before .before .before .if1 .left) in
+    let some = pos-of-ne-zero (c .before .before .before .before .before .if1 .left) in
     record { fits = omega (arith, l .inv .1 .len, l .inv .3, run-room (rings (a .corners .now) (a .ends .now)) (a .rule) (a .g) (a .y) (c .before .before .before .before .before .before .before .next-run .ensures) some (l .at) (l .inv .1) (put-room (a .out .now) (flat (sewnPoints (rowLines (rings (a .corners .now) (a .ends .now)) (a .rule) (a .g) (a .y)))) (2 * a .done .points) (c .before .before .before .before .before .before .before .before .before .before .before .before .before .before .before .pre .2))) }
 
 slice-write-stops : tie.Need-slice-write-stops Inv-loop μ-loop
 slice-write-stops c =
     let a = c .before .before .before .before .before .before .before .before .before .before .before .before .before .before .before .args in let l = c .before .before .before .before .before .before .before .before .before .loop in
-    let some = positive (c .before .before .before .before .before .before .before .next-run .result .many) (c .before .before .before .before .before .if1 .left) in
+    let some = pos-of-ne-zero (c .before .before .before .before .before .if1 .left) in
     stop-room (rings (a .corners .now) (a .ends .now)) (a .rule) (a .g) (a .y) (c .before .before .before .before .before .before .before .next-run .ensures) some (l .at) (l .inv .2) (put-room (a .stops .now) (sewnEnds (a .done .points) (rowLines (rings (a .corners .now) (a .ends .now)) (a .rule) (a .g) (a .y))) (a .done .lines) (omega (arith, c .before .before .before .before .before .before .before .before .before .before .before .before .before .before .before .pre .3, ends-length (a .done .points) (rowLines (rings (a .corners .now) (a .ends .now)) (a .rule) (a .g) (a .y)))))
 
 add-s : tie.Need-add-s Inv-loop μ-loop
@@ -80,7 +80,7 @@ loop-less c = omega (arith, c .before .before .before .before .before .before .b
 loop-again : tie.Need-loop-again Inv-loop μ-loop
 loop-again c =
     let a = c .before .before .before .before .before .before .before .before .before .before .before .before .before .before .before .before .args in let l = c .before .before .before .before .before .before .before .before .before .before .loop in
-    let some = positive (c .before .before .before .before .before .before .before .before .next-run .result .many) (c .before .before .before .before .before .before .if1 .left) in
+    let some = pos-of-ne-zero (c .before .before .before .before .before .before .if1 .left) in
     (c .before .before .before .before .before .before .before .before .next-run .ensures .high, run-put (rings (a .corners .now) (a .ends .now)) (a .rule) (a .g) (a .y) (c .before .before .before .before .before .before .before .before .next-run .ensures) some (l .at) (l .inv .1) (put-room (a .out .now) (flat (sewnPoints (rowLines (rings (a .corners .now) (a .ends .now)) (a .rule) (a .g) (a .y)))) (2 * a .done .points) (c .before .before .before .before .before .before .before .before .before .before .before .before .before .before .before .before .pre .2)) _ (c .before .before .before .before .put-run .ensures), stop-put (rings (a .corners .now) (a .ends .now)) (a .rule) (a .g) (a .y) (c .before .before .before .before .before .before .before .before .next-run .ensures) some (l .at) (l .inv .2) (put-room (a .stops .now) (sewnEnds (a .done .points) (rowLines (rings (a .corners .now) (a .ends .now)) (a .rule) (a .g) (a .y))) (a .done .lines) (omega (arith, c .before .before .before .before .before .before .before .before .before .before .before .before .before .before .before .before .pre .3, ends-length (a .done .points) (rowLines (rings (a .corners .now) (a .ends .now)) (a .rule) (a .g) (a .y))))), l .inv .3, l .inv .4)
 
 same-length-3 : tie.Need-same-length-3 Inv-loop μ-loop

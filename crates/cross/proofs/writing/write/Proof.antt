@@ -1,15 +1,14 @@
 -- `write` meets its contract: the rows from r on are still to be written. Assumes nothing.
 use native.Mathlib.Omega.{arith}
-use mathlib.Core.Path.{_≡_, refl, sym, ap, _∙_}
-use Prim.Native.Nat.{_+_, _-_, _*_, _≤_}
-use lib.ListN.{length}
+use mathlib.Core.Path.{ap}
+use Prim.Native.Nat.{_-_, _*_, _≤_}
 use Rattle.seqs.specs.Front.{Front, front-start, front-at, front-end}
 use Rattle.geom.specs.Outline.{rings}
 use Rattle.geom.specs.Sewing.{flat}
 use Rattle.rules.specs.Calls.{sewnPoints, sewnEnds}
+use Rattle.rules.specs.CallLaws.{ends-length}
 use Rattle.patterns_rules.specs.Patterns.{stitched}
 use Rattle.patterns_rules.specs.Answers.{leftPoints, leftEnds}
-use Rattle.patterns_rules.specs.LineLaws.{ends-length}
 use Rattle.cross.specs.RowLaws.{rowsIn, rows-start, rows-none}
 use Rattle.cross.proofs.Turns.{row-room, row-put, ends-room, ends-put, all-counted}
 use borrow.Author.Needs.{needs}

@@ -1,10 +1,11 @@
 use lib.Ieee.{ofBits}
 use Rattle.geom.specs.Outline.{rings}
 use Rattle.rules.specs.Fill.{edges}
-use Rattle.edges.specs.SpanLaws.{rows-some, rows-none, cast-back}
+use Rattle.edges.specs.SpanLaws.{rows-some, rows-none}
 use borrow.Author.Needs.{needs}
 use Rattle.edges.proofs.rows.rows_of.Statement.{statement}
 use Rattle.edges.proofs.rows.rows_of.Tie as tie
+use Rattle.seqs.specs.Signed.{cast-back}
 
 returns : tie.Need-returns
 unfolding ofBits

@@ -1,5 +1,4 @@
 -- Edges and pieces as far as there is room, then the need. Assumes nothing.
-use mathlib.Core.Path.{refl}
 use native.Mathlib.Omega.{arith}
 use Rattle.finding.specs.FindLaws.{short-floats, short-wholes, outlined, few-edges, edge-count, lent, lent-strict, piece-count, few-found, holds}
 use borrow.Author.Needs.{needs}

@@ -1,7 +1,7 @@
 -- Zeros from the front on. Assumes nothing.
 use mathlib.Core.Path.{_≡_, _∙_}
 use native.Mathlib.Omega.{arith}
-use Prim.Native.Nat.{_-_, _≤_}
+use Prim.Native.Nat.{_-_}
 use lib.ListN.{length, replicate}
 use lib.Ieee.{ofBits}
 use Rattle.numbers.specs.Num.{zero64}

@@ -1,7 +1,7 @@
 -- Zeros from the front on. Assumes nothing.
 use mathlib.Core.Path.{_≡_, _∙_}
 use native.Mathlib.Omega.{arith}
-use Prim.Native.Nat.{_-_, _≤_}
+use Prim.Native.Nat.{_-_}
 use lib.ListN.{length, replicate}
 use Rattle.seqs.specs.Front.{Front, front-start, front-at, front-push, front-end, next-rep, none-rep, drop-rep}
 use borrow.Author.Needs.{needs}

@@ -1,15 +1,10 @@
 use borrow.Author.Tests.{eq-eqb, ne-eqb}
-use borrow.Author.Needs.{needs}
 use Rattle.geolists.proofs.outline.rule_of.Statement.{statement}
 use Rattle.geolists.proofs.outline.rule_of.Tie as tie
-use Rattle.geolists.proofs.outline.rule_of.Reads as reads
-use Rattle.geolists.proofs.outline.rule_of.Lts as lts
 
--- src/outline.rt:16:9
 returns : tie.Need-returns
 returns c = rw (eq-eqb _ 0 (c .if1 .taken))
 
--- src/outline.rt:12:1
 returns-2 : tie.Need-returns-2
 returns-2 c = rw (ne-eqb _ 0 (c .if1 .left))
 

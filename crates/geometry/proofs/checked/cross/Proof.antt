@@ -2,10 +2,10 @@ use mathlib.Core.Path.{ap}
 use lib.Ieee.{Float}
 use Rattle.refusal.specs.Refusal.{done}
 use Rattle.geometry.specs.Answers.{crossAnswer}
-use Rattle.geometry.proofs.Checks.{passed, failed}
 use borrow.Author.Needs.{needs}
 use Rattle.geometry.proofs.checked.cross.Statement.{statement}
 use Rattle.geometry.proofs.checked.cross.Tie as tie
+use Rattle.seqs.specs.Tests.{passed, failed}
 
 returns : tie.Need-returns
 unfolding crossAnswer

@@ -5,10 +5,10 @@ use mir.ValLaws.{toZ-ofZ}
 use Rattle.refusal.specs.Refusal.{done}
 use Rattle.geometry.specs.Answers.{windingAnswer}
 use Rattle.limits.specs.LimitsLaws.{outline-layout}
-use Rattle.geometry.proofs.Checks.{passed, failed}
 use borrow.Author.Needs.{needs}
 use Rattle.geometry.proofs.checked.winding.Statement.{statement}
 use Rattle.geometry.proofs.checked.winding.Tie as tie
+use Rattle.seqs.specs.Tests.{passed, failed}
 
 returns : tie.Need-returns
 unfolding windingAnswer

@@ -1,6 +1,6 @@
 -- The invariant: what the rings to come make of the corners so far is what all come to.
 use mathlib.Core.Path.{_≡_, refl, sym, _∙_}
-use Prim.Native.Nat.{_-_, _≤_}
+use Prim.Native.Nat.{_≤_}
 use native.Mathlib.Omega.{arith}
 use lib.ListN.{length, drop, length-drop}
 use Rattle.jobs.specs.Job.{head, counted}

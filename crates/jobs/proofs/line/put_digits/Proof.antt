@@ -1,6 +1,6 @@
 -- The invariant: what is left to write stands before place at + i, and behind it what is written.
 use mathlib.Core.Path.{_≡_}
-use Prim.Native.Nat.{_+_, _%_, _≤_, _<_}
+use Prim.Native.Nat.{_%_, _≤_, _<_}
 use native.Mathlib.Nat.{mod-lt}
 use native.Mathlib.Omega.{arith}
 use Rattle.jobs.specs.Text.{digits}

@@ -1,6 +1,6 @@
 -- The invariant: the rings to come are well framed, and their corners are what is left to write.
 use mathlib.Core.Path.{_≡_, sym, ap, _∙_}
-use Prim.Native.Nat.{ℕ, _+_, _-_, _*_, _≤_}
+use Prim.Native.Nat.{ℕ, _+_, _*_, _≤_}
 use native.Mathlib.Omega.{arith}
 use lib.ListN.{length, drop, length-drop}
 use Rattle.seqs.specs.Front.{Front, front-start, front-at, front-block, front-room-block, front-end, rest-length}

@@ -2,7 +2,7 @@
 use mathlib.Core.Path.{_≡_}
 use Prim.Native.Nat.{_+_, _-_, _*_, _≤_}
 use native.Mathlib.Omega.{arith}
-use lib.ListN.{length, drop}
+use lib.ListN.{drop}
 use Rattle.seqs.specs.Front.{Front, front-start, front-at, front-push, front-end}
 use Rattle.jobs.specs.Job.{floats}
 use Rattle.jobs.specs.JobLaws.{floats-turn, floats-end}

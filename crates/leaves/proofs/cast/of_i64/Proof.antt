@@ -1,8 +1,6 @@
 use borrow.Author.Needs.{needs}
-use mathlib.Core.Path.{_≡_, sym, subst, ap, _∙_}
-use lib.Dec.{T}
-use lib.IntN.{ℤ, pos, negsuc}
-use lib.Ieee.{binary64, inFloat, ofInt}
+use mathlib.Core.Path.{ap, _∙_}
+use lib.Ieee.{binary64, ofInt}
 use mir.Syntax.{w64}
 use Rattle.leaves.proofs.Range.{in-float}
 use mir.ValLaws.{toZ-ofZ}

@@ -1,7 +1,6 @@
-use mathlib.Core.Path.{_≡_, sym, subst}
+use mathlib.Core.Path.{sym, subst}
 use lib.Dec.{T}
-use lib.Ieee.{ofBits, neg, toSigned}
-use lib.Ieee.Compare.{differs-from-itself}
+use lib.Ieee.{ofBits, neg}
 use Rattle.leaves.proofs.CastEnds.{to-max, to-min, of-nan}
 use borrow.Author.Needs.{needs}
 use Rattle.leaves.proofs.cast.to_i64.Statement.{statement}

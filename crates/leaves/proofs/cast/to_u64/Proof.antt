@@ -1,6 +1,6 @@
-use mathlib.Core.Path.{_≡_, sym, subst}
+use mathlib.Core.Path.{sym, subst}
 use lib.Dec.{T}
-use lib.Ieee.{ofBits, neg, toUnsigned}
+use lib.Ieee.{ofBits, neg}
 use Rattle.leaves.proofs.CastEnds.{count-max, count-min, count-nan}
 use borrow.Author.Needs.{needs}
 use Rattle.leaves.proofs.cast.to_u64.Statement.{statement}

@@ -1,5 +1,4 @@
 use borrow.Author.Needs.{needs}
-use mathlib.Core.Path.{sym, _∙_}
 use Rattle.leaves.specs.Answer.{orderAnswer}
 use Rattle.leaves.proofs.OrderTests.{tested}
 use Rattle.leaves.proofs.checked.order.Statement.{statement}

@@ -2,7 +2,7 @@
 use mathlib.Core.Path.{_≡_, sym, ap, subst, _∙_}
 use native.Mathlib.Omega.{arith}
 use lib.Dec.{T}
-use lib.Ieee.{Float, nan, binary64, ofBits, toBits, fits, div}
+use lib.Ieee.{Float, nan, binary64, ofBits, fits, div}
 use lib.Ieee.Bits.{toBits-lt, ofBits-toBits}
 use Rattle.numbers.specs.Root.{root}
 use Rattle.leaves.proofs.Total.{Own, not-nan, by-pattern, nan-own, zero-own, minus-zero-own, infinity-own, no-root}

@@ -1,9 +1,8 @@
-use mathlib.Core.Path.{_≡_, sym, ap, subst, _∙_}
+use mathlib.Core.Path.{sym, ap, _∙_}
 use Prim.Native.Nat.{ℕ, _+_, _-_, _*_, _/_, _%_, _^_}
 use native.Mathlib.Nat.{add-comm}
 use native.Mathlib.Omega.{arith}
 use lib.Count.{leadingZeros}
-use lib.Ieee.{binary64}
 use Rattle.numbers.specs.Root.{root, rootUnits}
 use Rattle.numbers.specs.Decode.{read-low, read-mid, root-odd}
 use Rattle.leaves.proofs.Near.{Moved, moved, moved-same, placed-same}

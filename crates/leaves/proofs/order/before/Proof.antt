@@ -1,5 +1,5 @@
-use mathlib.Core.Path.{_≡_, sym, ap, subst, _∙_}
-use mathlib.Core.Bool.{Bool, not, _&&_, cond}
+use mathlib.Core.Path.{sym, ap, _∙_}
+use mathlib.Core.Bool.{Bool, not, _&&_}
 use Rattle.numbers.specs.Order.{negative}
 use Rattle.leaves.proofs.OrderTests.{before-less, before-apart, before-level}
 use borrow.Author.Needs.{needs}

@@ -1,6 +1,3 @@
-use mathlib.Core.Path.{_≡_, sym, ap, subst, _∙_}
-use mathlib.Core.Bool.{Bool, cond}
-use lib.Ieee.{Float, isNan}
 use Rattle.numbers.specs.Order.{before, larger}
 use Rattle.leaves.proofs.OrderTests.{tested, is-nan-true, is-nan-false}
 use borrow.Author.Needs.{needs}

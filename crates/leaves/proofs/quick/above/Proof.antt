@@ -1,19 +1,14 @@
-use mathlib.Core.Path.{_≡_, sym, ap}
+use mathlib.Core.Path.{sym, ap}
 use mathlib.Core.Bool.{Bool, cond}
 use Prim.Native.Nat.{suc}
 use native.Mathlib.Omega.{arith}
 use borrow.Author.Tests.{le-leb, lt-leb}
-use borrow.Author.Needs.{needs}
 use Rattle.leaves.proofs.quick.above.Statement.{statement}
 use Rattle.leaves.proofs.quick.above.Tie as tie
-use Rattle.leaves.proofs.quick.above.Reads as reads
-use Rattle.leaves.proofs.quick.above.Lts as lts
 
--- src/quick.rt:25:1
 returns : tie.Need-returns
 returns c = (ap (λ (b : Bool). cond b 1 0) (sym (le-leb (suc (c .before .args .b)) (c .before .args .a) (c .if1 .taken))), omega arith)
 
--- src/quick.rt:25:1
 returns-2 : tie.Need-returns-2
 returns-2 c = (ap (λ (b : Bool). cond b 1 0) (sym (lt-leb (suc (c .before .args .b)) (c .before .args .a) (omega (arith, c .if1 .left)))), omega arith)
 

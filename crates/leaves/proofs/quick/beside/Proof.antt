@@ -1,4 +1,4 @@
-use mathlib.Core.Path.{_≡_, ap, _∙_}
+use mathlib.Core.Path.{ap, _∙_}
 use mathlib.Core.Bool.{cond}
 use Prim.Native.Nat.{ℕ, _+_, _-_, _^_}
 use native.Mathlib.Omega.{arith}
@@ -7,55 +7,40 @@ use Rattle.leaves.proofs.Tried.{beside-near}
 use borrow.Author.Needs.{needs}
 use Rattle.leaves.proofs.quick.beside.Statement.{statement}
 use Rattle.leaves.proofs.quick.beside.Tie as tie
-use Rattle.leaves.proofs.quick.beside.Reads as reads
-use Rattle.leaves.proofs.quick.beside.Lts as lts
-use Rattle.leaves.proofs.quick.above.Reads as above-reads
 
--- src/quick.rt:36:33
 mul-if1 : tie.Need-mul-if1
 mul-if1 c = search needs
 
--- src/quick.rt:36:13
 add-if1 : tie.Need-add-if1
 add-if1 c = search needs
 
--- src/quick.rt:37:36
 mul-if2 : tie.Need-mul-if2
 mul-if2 c = search needs
 
--- src/quick.rt:37:32
 add-if2 : tie.Need-add-if2
 add-if2 c = search needs
 
--- src/quick.rt:38:33
 add-above : tie.Need-add-above
 add-above c = search needs
 
--- src/quick.rt:38:24
 above-requires : tie.Need-above-requires
 above-requires c κs = search needs
 
--- src/quick.rt:38:20
 add-result : tie.Need-add-result
 add-result c = search needs
 
--- src/quick.rt:38:64
 add-above-2 : tie.Need-add-above-2
 add-above-2 c = search needs
 
--- src/quick.rt:38:58
 above-requires-2 : tie.Need-above-requires-2
 above-requires-2 c κs = search needs
 
--- src/quick.rt:38:20
 add-result-2 : tie.Need-add-result-2
 add-result-2 c = search needs
 
--- src/quick.rt:38:20
 sub-result : tie.Need-sub-result
 sub-result c = search needs
 
--- src/quick.rt:38:13
 returns : tie.Need-returns
 returns c = (
   omega (arith, c .before .above .ensures .1, c .above2 .ensures .1),
@@ -67,11 +52,9 @@ returns c = (
       ∙ beside-near q e n s h (c .before .before .before .if1 .taken) (c .before .before .if2 .taken),
 )
 
--- src/quick.rt:32:1
 returns-2 : tie.Need-returns-2
 returns-2 c = search needs
 
--- src/quick.rt:32:1
 returns-3 : tie.Need-returns-3
 returns-3 c = search needs
 

@@ -5,20 +5,15 @@ use native.Mathlib.Omega.{arith}
 use borrow.Author.Needs.{needs}
 use Rattle.leaves.proofs.quick.evened.Statement.{statement}
 use Rattle.leaves.proofs.quick.evened.Tie as tie
-use Rattle.leaves.proofs.quick.evened.Reads as reads
-use Rattle.leaves.proofs.quick.evened.Lts as lts
 
--- src/quick.rt:78:32
 mul-result : tie.Need-mul-result
 mul-result c = search needs
 
--- src/quick.rt:74:1
 returns : tie.Need-returns
 returns c =
     let p : (c .before .args .e + 1021) % 2 ≡ 0 = omega (arith, c .if1 .taken) in
     (sym (ap (λ (x : ℕ). c .before .args .d * 2 ^ x) p ∙ mul-one (c .before .args .d)), omega arith)
 
--- src/quick.rt:74:1
 returns-2 : tie.Need-returns-2
 returns-2 c =
     let p : (c .before .args .e + 1021) % 2 ≡ 1 = omega (arith, c .if1 .left) in

@@ -5,75 +5,55 @@ use Rattle.leaves.proofs.Tried.{halves}
 use borrow.Author.Needs.{needs}
 use Rattle.leaves.proofs.quick.tried.Statement.{statement}
 use Rattle.leaves.proofs.quick.tried.Tie as tie
-use Rattle.leaves.proofs.quick.tried.Reads as reads
-use Rattle.leaves.proofs.quick.tried.Lts as lts
-use Rattle.leaves.proofs.quick.beside.Reads as beside-reads
 
--- src/quick.rt:52:20
 mul-high : tie.Need-mul-high
 mul-high c = let q = c .before .args .q in omega (arith, mul-le-mul {n₁ = q / 2 ^ 26} {m₁ = q / 2 ^ 26} {n₂ = 2 ^ 27} {m₂ = 2 ^ 27} (omega arith) (omega arith))
 
--- src/quick.rt:56:28
 mul-more : tie.Need-mul-more
 mul-more c = search needs
 
--- src/quick.rt:56:28
 add-more : tie.Need-add-more
 add-more c = search needs
 
--- src/quick.rt:57:27
 mul-mid : tie.Need-mul-mid
 mul-mid c = search needs
 
--- src/quick.rt:57:27
 mul-mid-2 : tie.Need-mul-mid-2
 mul-mid-2 c = let q = c .before .before .before .args .q in omega (arith, mul-le-mul {n₁ = 2 * (q / 2 ^ 26)} {m₁ = q % 2 ^ 26} {n₂ = 2 ^ 28} {m₂ = 2 ^ 26} (omega arith) (omega arith))
 
--- src/quick.rt:61:35
 mul-low : tie.Need-mul-low
 mul-low c = let q = c .before .before .before .before .before .args .q in omega (arith, mul-le-mul {n₁ = q % 2 ^ 26} {m₁ = q % 2 ^ 26} {n₂ = 2 ^ 26} {m₂ = 2 ^ 26} (omega arith) (omega arith))
 
--- src/quick.rt:62:35
 mul-if6 : tie.Need-mul-if6
 mul-if6 c = search needs
 
--- src/quick.rt:63:46
 mul-beside : tie.Need-mul-beside
 mul-beside c = search needs
 
--- src/quick.rt:63:46
 sub-beside : tie.Need-sub-beside
 sub-beside c = search needs
 
--- src/quick.rt:63:29
 beside-requires : tie.Need-beside-requires
 beside-requires c κs = search needs
 
--- src/quick.rt:63:29
 returns : tie.Need-returns
 returns c = let start = c .before .before .before .before .before .before .before in (omega (arith, c .beside .ensures .0), c .beside .ensures .1 (start .args .w * 2 ^ 52) (omega (arith, halves (start .args .q))) (omega arith))
 
--- src/quick.rt:45:1
 returns-2 : tie.Need-returns-2
 returns-2 c = search needs
 
--- src/quick.rt:45:1
 returns-3 : tie.Need-returns-3
 returns-3 c = search needs
 
--- src/quick.rt:45:1
 returns-4 : tie.Need-returns-4
 returns-4 c = search needs
 
--- src/quick.rt:45:1
 returns-5 : tie.Need-returns-5
 returns-5 c = search needs
 
--- src/quick.rt:45:1
 returns-6 : tie.Need-returns-6
 returns-6 c = search needs
 
--- src/quick.rt:45:1
 returns-7 : tie.Need-returns-7
 returns-7 c = search needs
 

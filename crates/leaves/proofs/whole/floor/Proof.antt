@@ -1,6 +1,5 @@
-use mathlib.Core.Path.{_≡_, sym, ap, subst, _∙_}
-use mathlib.Core.Bool.{Bool, not, _&&_, cond}
-use lib.Ieee.{binary64}
+use mathlib.Core.Path.{ap, _∙_}
+use mathlib.Core.Bool.{Bool}
 use Rattle.numbers.specs.Whole.{floor, wholeOf}
 use borrow.Author.Needs.{needs}
 use Rattle.leaves.proofs.whole.floor.Statement.{statement}

@@ -1,5 +1,5 @@
-use mathlib.Core.Path.{_≡_, sym, ap, subst, _∙_}
-use mathlib.Core.Bool.{Bool, not, _&&_, cond}
+use mathlib.Core.Path.{sym, ap}
+use mathlib.Core.Bool.{Bool, cond}
 use lib.Ieee.{neg}
 use borrow.Author.Needs.{needs}
 use Rattle.leaves.proofs.whole.signed.Statement.{statement}

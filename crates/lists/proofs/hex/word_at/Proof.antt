@@ -8,9 +8,6 @@ use Rattle.lists.specs.Words.{wordFrom, wordAt}
 use Rattle.lists.proofs.Laws.{Room, room-step, room-fits, word-step, word-stop, word-end}
 use Rattle.lists.proofs.hex.word_at.Statement.{statement}
 use Rattle.lists.proofs.hex.word_at.Tie as tie
-use Rattle.lists.proofs.hex.word_at.Reads as reads
-use Rattle.lists.proofs.hex.word_at.Lts as lts
-use Rattle.lists.proofs.hex.digit.Reads as digit-reads
 
 abbrev Inv-loop : tie.InvT-loop
 Inv-loop s at v₀ i₀ left₀ v i left = (wordFrom left v (drop i s) ≡ wordAt s at) × (left ≤ 16) × Room v left

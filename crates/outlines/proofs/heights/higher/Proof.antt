@@ -2,7 +2,6 @@ use mathlib.Core.Path.{_≡_}
 use mathlib.Core.Bool.{true}
 use lib.Ieee.{le, div, ofBits}
 use Rattle.outlines.proofs.Blocks.{higher-stays, higher-moves, higher-nan}
-use borrow.Author.Needs.{needs}
 use Rattle.outlines.proofs.heights.higher.Statement.{statement}
 use Rattle.outlines.proofs.heights.higher.Tie as tie
 

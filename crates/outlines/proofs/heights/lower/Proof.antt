@@ -2,7 +2,6 @@ use mathlib.Core.Path.{_≡_}
 use mathlib.Core.Bool.{true}
 use lib.Ieee.{le, div, ofBits}
 use Rattle.outlines.proofs.Blocks.{lower-stays, lower-moves, lower-nan}
-use borrow.Author.Needs.{needs}
 use Rattle.outlines.proofs.heights.lower.Statement.{statement}
 use Rattle.outlines.proofs.heights.lower.Tie as tie
 

@@ -1,10 +1,9 @@
-use mathlib.Core.Path.{_≡_, sym}
-use mathlib.Core.Bool.{true, true≢false}
+use mathlib.Core.Path.{sym}
+use mathlib.Core.Bool.{true≢false}
 use lib.Dec.{lit≤}
 use lib.Ieee.{ofBits, neg}
 use Rattle.numbers.specs.Value.{Within}
 use Rattle.numbers.specs.Laws as laws
-use borrow.Author.Needs.{needs}
 use Rattle.outlines.proofs.heights.near.Statement.{statement}
 use Rattle.outlines.proofs.heights.near.Tie as tie
 

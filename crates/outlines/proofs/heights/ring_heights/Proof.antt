@@ -1,8 +1,8 @@
-use mathlib.Core.Path.{_≡_, refl, _∙_}
+use mathlib.Core.Path.{_≡_, refl, ap, _∙_}
 use mathlib.Core.Bool.{true}
 use Prim.Native.Nat.{_-_, _/_, _+_, _*_, _≤_}
 use native.Mathlib.Omega.{arith}
-use lib.ListN.{length, drop, getD, set, length-set}
+use lib.ListN.{length, drop}
 use Rattle.geom.specs.Outline.{points, rising}
 use Rattle.geom.specs.OutlineLaws.{rising-turn}
 use Rattle.outlines.specs.Heights.{Heights, startOf}
@@ -53,27 +53,17 @@ part-height-of-end c =
     let t = rising-turn (c .before .before .before .loop .a) (c .before .before .before .before .before .before .before .args .ends .now) (c .before .before .before .loop .k) (length (c .before .before .before .before .before .before .before .args .corners .now) / 2) (c .before .before .before .loop .inv .2) (c .before .before .loop-test .taken) in
     omega (arith, t .from, t .to, c .before .before .before .before .before .before .before .pre .0 .even)
 
-slice-write-t-2 : tie.Need-slice-write-t-2 Inv-loop μ-loop
-slice-write-t-2 c =
-    let h = c .height-of .result in
-    let i = 3 * (128 + c .before .before .before .before .before .loop .k) in
-    omega (arith, length-set (c .before .before .before .before .before .loop .t) i (h .lo), length-set (set (c .before .before .before .before .before .loop .t) i (h .lo)) (i + 1) (h .hi))
-
-slice-write-t-3 : tie.Need-slice-write-t-3 Inv-loop μ-loop
-slice-write-t-3 c =
-    let h = c .height-of .result in
-    let i = 3 * (128 + c .before .before .before .before .before .loop .k) in
-    omega (arith, length-set (c .before .before .before .before .before .loop .t) i (h .lo), length-set (set (c .before .before .before .before .before .loop .t) i (h .lo)) (i + 1) (h .hi))
-
 loop-again : tie.Need-loop-again Inv-loop μ-loop
 loop-again c =
-    let h = c .height-of .result in
-    let t = rising-turn (c .before .before .before .before .before .loop .a) (c .before .before .before .before .before .before .before .before .before .args .ends .now) (c .before .before .before .before .before .loop .k) (length (c .before .before .before .before .before .before .before .before .before .args .corners .now) / 2) (c .before .before .before .before .before .loop .inv .2) (c .before .before .before .before .loop-test .taken) in
-    (omega arith, start-next (c .before .before .before .before .before .before .before .before .before .args .ends .now) (c .before .before .before .before .before .loop .k), t .rise, three-size (c .before .before .before .before .before .loop .t) (3 * (128 + c .before .before .before .before .before .loop .k)) (h .lo) (h .hi) (h .right) ∙ c .before .before .before .before .before .loop .inv .3, heights-kept (c .before .before .before .before .before .loop .k) (c .before .before .before .before .before .before .before .before .before .args .corners .now) (c .before .before .before .before .before .before .before .before .before .args .ends .now) (c .before .before .before .before .before .loop .t) (h .lo) (h .hi) (h .right) (omega arith) (c .before .before .before .before .before .loop .inv .4), rings-next (c .before .before .before .before .before .loop .k) (c .before .before .before .before .before .before .before .before .before .args .corners .now) (c .before .before .before .before .before .before .before .before .before .args .ends .now) (c .before .before .before .before .before .loop .t) (h .lo) (h .hi) (h .right) (omega arith) (rw (c .before .before .before .before .before .loop .inv .1) at (c .height-of .ensures)) (c .before .before .before .before .before .loop .inv .5))
+    let at = c .before .before .before .before in
+    let e′ = c .before .before .put-height .ensures in
+    let h = at .height-of .result in
+    let t = rising-turn (at .before .before .before .before .before .loop .a) (at .before .before .before .before .before .before .before .before .before .args .ends .now) (at .before .before .before .before .before .loop .k) (length (at .before .before .before .before .before .before .before .before .before .args .corners .now) / 2) (at .before .before .before .before .before .loop .inv .2) (at .before .before .before .before .loop-test .taken) in
+    (omega arith, start-next (at .before .before .before .before .before .before .before .before .before .args .ends .now) (at .before .before .before .before .before .loop .k), t .rise, ap length e′ ∙ three-size (at .before .before .before .before .before .loop .t) (3 * (128 + at .before .before .before .before .before .loop .k)) (h .lo) (h .hi) (h .right) ∙ at .before .before .before .before .before .loop .inv .3, rw e′ (heights-kept (at .before .before .before .before .before .loop .k) (at .before .before .before .before .before .before .before .before .before .args .corners .now) (at .before .before .before .before .before .before .before .before .before .args .ends .now) (at .before .before .before .before .before .loop .t) (h .lo) (h .hi) (h .right) (omega arith) (at .before .before .before .before .before .loop .inv .4)), rw e′ (rings-next (at .before .before .before .before .before .loop .k) (at .before .before .before .before .before .before .before .before .before .args .corners .now) (at .before .before .before .before .before .before .before .before .before .args .ends .now) (at .before .before .before .before .before .loop .t) (h .lo) (h .hi) (h .right) (omega arith) (rw (at .before .before .before .before .before .loop .inv .1) at (at .height-of .ensures)) (at .before .before .before .before .before .loop .inv .5)))
 
 returns-2 : tie.Need-returns-2 Inv-loop μ-loop
 returns-2 c = record { layout = c .before .before .before .before .before .pre .0; heights = c .before .loop .inv .4; rings = rings-all (c .before .loop .k) (points (c .before .before .before .before .before .args .corners .now)) (c .before .before .before .before .before .args .ends .now) (c .before .loop .t) (c .before .loop .inv .5) (omega arith) }
 
 pub ring-heights-spec : {M : Type 1} → statement M
 ring-heights-spec =
-    tie.close (tie.spec Inv-loop μ-loop loop-holds (λ c. search needs) (λ c. search needs) (λ c. search needs) (λ c. search needs) returns (λ c. search needs) (λ c. search needs) mul-from mul-end mul-height-of sub-height-of part-height-of-start part-height-of-end (λ c κs. search needs) (λ c. search needs) (λ c. search needs) (λ c. search needs) (λ c. search needs) slice-write-t-2 (λ c. search needs) (λ c. search needs) slice-write-t-3 (λ c. search needs) (λ c. search needs) loop-again (λ c. search needs) returns-2)
+    tie.close (tie.spec Inv-loop μ-loop loop-holds (λ c. search needs) (λ c. search needs) (λ c. search needs) (λ c. search needs) returns (λ c. search needs) (λ c. search needs) mul-from mul-end mul-height-of sub-height-of part-height-of-start part-height-of-end (λ c κs. search needs) (λ c κs. search needs) (λ c. search needs) (λ c. search needs) loop-again (λ c. search needs) returns-2)

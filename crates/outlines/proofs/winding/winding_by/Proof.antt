@@ -1,6 +1,6 @@
 use mathlib.Core.Path.{_≡_, refl, sym, _∙_}
 use mathlib.Core.Bool.{true}
-use Prim.Native.Nat.{_+_, _-_, _/_, _*_, _≤_}
+use Prim.Native.Nat.{_-_, _/_, _*_, _≤_}
 use native.Mathlib.Omega.{arith}
 use lib.ListN.{length, drop, getD, length-take}
 use lib.IntN.{natAbs, _+ℤ_, +ℤ-idl}

@@ -1,7 +1,6 @@
 use mathlib.Core.Path.{refl}
 use lib.Ieee.{ofBits}
 use Rattle.satinrules.specs.Pairs.{centre}
-use borrow.Author.Needs.{needs}
 use Rattle.pairing.proofs.places.centre.Statement.{statement}
 use Rattle.pairing.proofs.places.centre.Tie as tie
 

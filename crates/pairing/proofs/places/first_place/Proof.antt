@@ -1,4 +1,4 @@
-use mathlib.Core.Path.{_≡_, sym, _∙_}
+use mathlib.Core.Path.{sym, _∙_}
 use borrow.Author.Needs.{needs}
 use Rattle.pairing.proofs.places.first_place.Statement.{statement}
 use Rattle.pairing.proofs.places.first_place.Tie as tie

@@ -1,4 +1,3 @@
-use mathlib.Core.Path.{sym, _∙_}
 use lib.Ieee.{ofBits, round}
 use Rattle.numbers.specs.Num.{literal}
 use Rattle.polyline.specs.Line.{shortest}

@@ -2,7 +2,6 @@ use mathlib.Core.Path.{_≡_}
 use mathlib.Core.Bool.{false}
 use lib.Ieee.{lt}
 use Rattle.satinrules.specs.Pairs.{grows}
-use borrow.Author.Needs.{needs}
 use Rattle.pairing.proofs.places.grows.Statement.{statement}
 use Rattle.pairing.proofs.places.grows.Tie as tie
 

@@ -1,5 +1,5 @@
 -- `next_window` meets its contract: the sync point that is kept next ends the window. Assumes nothing.
-use mathlib.Core.Path.{_≡_, refl, sym, ap, _∙_}
+use mathlib.Core.Path.{refl, ap, _∙_}
 use native.Mathlib.Omega.{arith}
 use lib.ListN.{length}
 use Rattle.pairing.specs.Walk.{leftOf}

@@ -1,4 +1,3 @@
-use mathlib.Core.Path.{_≡_, refl}
 use Rattle.satinrules.specs.Pairs.{countOf}
 use Rattle.pairing.specs.Walk.{passOf}
 use borrow.Author.Needs.{needs}

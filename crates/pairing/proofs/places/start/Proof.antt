@@ -1,4 +1,4 @@
-use mathlib.Core.Path.{_≡_, refl, sym}
+use mathlib.Core.Path.{refl, sym}
 use lib.Ieee.{ofBits}
 use Rattle.satinrules.specs.Pairs.{origin}
 use Rattle.numbers.specs.Num.{zero64}

@@ -1,7 +1,6 @@
 -- `lay_pairs` meets its contract: the pairs of the places that are found from here on, and of the ends, are to be written from `to` on. Assumes nothing.
-use mathlib.Core.Path.{_≡_, refl, sym, ap, _∙_}
+use mathlib.Core.Path.{refl, ap, _∙_}
 use mathlib.Core.List.{[], _∷_, _++_}
-use Prim.Native.Nat.{_+_, _/_, _*_, _≤_}
 use native.Mathlib.Omega.{arith}
 use lib.ListN.{length, take}
 use lib.Seq.{take-at}
@@ -10,8 +9,8 @@ use Rattle.geom.specs.Outline.{points}
 use Rattle.satinrules.specs.Pairs.{pairAt}
 use Rattle.satinrules.specs.Calls.{railsOf}
 use Rattle.pairing.specs.Walk.{leftOf, foundOf, walkPlaces}
-use Rattle.pairing.specs.WalkLaws.{found-more, found-none, atMost, at-most-less, at-most-first}
-use Rattle.pairing.specs.Store.{Laid, storedPairs}
+use Rattle.pairing.specs.WalkLaws.{found-more, found-none, atMost, at-most-less}
+use Rattle.pairing.specs.Store.{storedPairs}
 use Rattle.pairing.specs.StoreLaws.{stored-length, stored-none, pair-room, pair-put}
 use borrow.Author.Needs.{needs}
 use Rattle.pairing.proofs.store.lay_pairs.Statement.{statement}

@@ -1,5 +1,5 @@
 -- `pair_at` meets its contract: each rail is walked by its own part of the running lengths, wherever it is begun. Assumes nothing.
-use mathlib.Core.Path.{_≡_, refl, sym, ap, _∙_}
+use mathlib.Core.Path.{_≡_}
 use Prim.Native.Nat.{_+_, _-_, _/_}
 use native.Mathlib.Omega.{arith}
 use lib.ListN.{length}

@@ -1,8 +1,7 @@
-use mathlib.Core.Path.{_≡_, refl, ap, _∙_}
+use mathlib.Core.Path.{refl}
 use mathlib.Core.List.{[], _∷_}
 use Prim.Native.Nat.{_+_}
 use native.Mathlib.Omega.{arith}
-use lib.ListN.{length}
 use Rattle.satinrules.specs.Flat.{flat-size, flat-then}
 use Rattle.pairing.specs.StoreLaws.{two-size}
 use borrow.Author.Needs.{needs}

@@ -1,5 +1,5 @@
 -- `put_rails` meets its contract: one rail's running lengths after the other's. Assumes nothing.
-use mathlib.Core.Path.{_≡_, refl, sym, ap, _∙_}
+use mathlib.Core.Path.{ap, _∙_}
 use native.Mathlib.Omega.{arith}
 use Prim.Native.Nat.{_/_}
 use lib.ListN.{length}
@@ -7,7 +7,6 @@ use Rattle.seqs.specs.Put.{put-then, put-length}
 use Rattle.geom.specs.Outline.{points}
 use Rattle.satinrules.specs.Arc.{lengths}
 use Rattle.pairing.specs.StoreLaws.{rail-count, rails-size, laid-made}
-use borrow.Author.Needs.{needs}
 use Rattle.pairing.proofs.store.put_rails.Statement.{statement}
 use Rattle.pairing.proofs.store.put_rails.Tie as tie
 

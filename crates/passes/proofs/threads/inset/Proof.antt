@@ -1,5 +1,4 @@
 -- `inset` meets its contract: one length serves both ways. Assumes nothing.
-use mathlib.Core.Path.{_∙_}
 use lib.Ieee.{ofBits, round}
 use Rattle.numbers.specs.Num.{literal}
 use Rattle.geom.specs.Point.{dist}

@@ -1,4 +1,4 @@
-use mathlib.Core.Path.{_∙_, ap}
+use mathlib.Core.Path.{ap}
 use lib.Ieee.{ofBits}
 use borrow.Author.Tests.{eq-eqb, ne-eqb}
 use Rattle.satinrules.specs.declared.Pair.{Pair}

@@ -1,7 +1,5 @@
-use mathlib.Core.Path.{_≡_, ap, _∙_}
-use Prim.Native.Nat.{_+_}
+use mathlib.Core.Path.{ap, _∙_}
 use native.Mathlib.Omega.{arith}
-use lib.ListN.{length}
 use Rattle.seqs.specs.Slices.{capped}
 use Rattle.geom.specs.OutlineLaws.{points-length}
 use borrow.Author.Needs.{needs}

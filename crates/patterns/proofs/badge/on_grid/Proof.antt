@@ -1,9 +1,7 @@
 -- `on_grid` meets its contract: what is counted is what the room is compared with. Assumes nothing.
 use native.Mathlib.Omega.{arith}
-use mathlib.Core.Path.{_≡_, refl, sym, ap, _∙_}
-use Prim.Native.Nat.{ℕ, _+_, _/_, _≤_}
+use mathlib.Core.Path.{refl}
 use lib.ListN.{length}
-use Rattle.rules.specs.Calls.{sewnPoints}
 use Rattle.patterns_rules.specs.Answers.{countOf, saidLines, leftPoints, leftEnds}
 use Rattle.patterns_rules.specs.LineLaws.{no-room-points, no-room-lines, points-fit, room}
 use Rattle.geom.specs.Outline.{rings}

@@ -1,6 +1,6 @@
 -- `pairs_along` meets its contract: which of SIZE, WORK, ROOM and DONE it is, and what is laid is what is copied. Assumes nothing.
-use mathlib.Core.Path.{_≡_, refl, sym, ap, _∙_}
-use Prim.Native.Nat.{_+_, _-_, _*_}
+use mathlib.Core.Path.{_≡_, refl, ap, _∙_}
+use Prim.Native.Nat.{_-_, _*_}
 use native.Mathlib.Omega.{arith}
 use lib.ListN.{length, length-replicate}
 use Rattle.geom.specs.Outline.{points}

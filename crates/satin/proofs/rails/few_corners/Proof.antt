@@ -1,9 +1,7 @@
-use native.Mathlib.Omega.{arith}
 use borrow.Author.Tests.{lt-ltb, le-ltb}
 use Rattle.geom.specs.OutlineLaws.{points-length}
 use Rattle.satinrules.specs.Pairs.{few}
 use Rattle.satinrules.specs.Calls.{railsOf}
-use borrow.Author.Needs.{needs}
 use Rattle.satin.proofs.rails.few_corners.Statement.{statement}
 use Rattle.satin.proofs.rails.few_corners.Tie as tie
 

@@ -1,6 +1,5 @@
 use borrow.Author.Tests.{eq-eqb, ne-eqb}
 use Rattle.satinrules.specs.Calls.{goodSync}
-use borrow.Author.Needs.{needs}
 use Rattle.satin.proofs.rails.good_sync.Statement.{statement}
 use Rattle.satin.proofs.rails.good_sync.Tie as tie
 

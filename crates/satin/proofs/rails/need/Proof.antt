@@ -1,4 +1,3 @@
-use native.Mathlib.Omega.{arith}
 use Rattle.geom.specs.OutlineLaws.{points-length}
 use Rattle.satinrules.specs.Calls.{railsOf, need}
 use borrow.Author.Needs.{needs}

@@ -1,5 +1,5 @@
 -- `rails_refusal` meets its contract: each answer follows from the tests on the way to it. Assumes nothing.
-use mathlib.Core.Path.{refl, sym, _∙_}
+use mathlib.Core.Path.{sym, _∙_}
 use borrow.Author.Tests.{not-true, not-false}
 use Rattle.satinrules.specs.Calls.{goodRails}
 use borrow.Author.Needs.{needs}

@@ -1,6 +1,4 @@
-use mathlib.Core.Path.{_≡_, refl, _∙_}
 use Prim.Native.Nat.{_-_, _≤_}
-use native.Mathlib.Omega.{arith}
 use lib.ListN.{length, drop}
 use lib.Ieee.{nan}
 use Rattle.seqs.specs.Front.{Front, front-start, front-at, front-push, front-room, front-end, next, none}

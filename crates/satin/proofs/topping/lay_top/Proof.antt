@@ -1,9 +1,7 @@
 -- `lay_top` meets its contract: the stitches go over the pairs that were laid, and stand behind them. Assumes nothing.
-use mathlib.Core.Path.{_≡_, refl, sym, ap, _∙_}
+use mathlib.Core.Path.{_∙_}
 use native.Mathlib.Omega.{arith}
-use lib.ListN.{length}
 use Rattle.satin.specs.UnderlayLaws.{fit-some, fit-laid, fit-stitches}
-use borrow.Author.Needs.{needs}
 use Rattle.satin.proofs.topping.lay_top.Statement.{statement}
 use Rattle.satin.proofs.topping.lay_top.Tie as tie
 

@@ -1,4 +1,3 @@
-use mathlib.Core.Path.{_≡_}
 use native.Mathlib.Omega.{arith}
 use Rattle.satin.specs.Underlay.{underlayCount}
 use Rattle.satin.specs.UnderlayLaws.{bit-one}

@@ -1,5 +1,4 @@
 -- `put_runs` meets its contract: the centre, and then the contour's two sides, one after the other. Assumes nothing.
-use mathlib.Core.Path.{_≡_}
 use mathlib.Core.Bool.{false, not}
 use mathlib.Core.List.{_++_}
 use Prim.Native.Nat.{_*_, _≤_}
@@ -11,7 +10,6 @@ use Rattle.passes.specs.Threads.{pairsIn}
 use Rattle.passes.specs.declared.threads.Thread.the-variants.{Middle, SideA, SideB}
 use Rattle.satin.specs.Underlay.{overIf, runsOver}
 use Rattle.satin.specs.UnderlayLaws.{end-is, three-length, second-room, third-room, three-put, three-size}
-use borrow.Author.Needs.{needs}
 use Rattle.satin.proofs.underlay.put_runs.Statement.{statement}
 use Rattle.satin.proofs.underlay.put_runs.Tie as tie
 

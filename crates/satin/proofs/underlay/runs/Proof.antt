@@ -1,5 +1,4 @@
 use Rattle.satin.specs.UnderlayLaws.{first-on, first-off}
-use borrow.Author.Needs.{needs}
 use Rattle.satin.proofs.underlay.runs.Statement.{statement}
 use Rattle.satin.proofs.underlay.runs.Tie as tie
 

@@ -1,4 +1,4 @@
-use mathlib.Core.Path.{refl, sym, _∙_}
+use mathlib.Core.Path.{sym, _∙_}
 use Rattle.satinrules.specs.Settings.{madeAnswer}
 use borrow.Author.Needs.{needs}
 use Rattle.satinrules.proofs.Satin.new.Statement.{statement}

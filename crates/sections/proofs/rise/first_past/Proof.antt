@@ -1,8 +1,7 @@
 use mathlib.Core.Path.{_≡_, subst}
 use native.Mathlib.Omega.{arith}
-use Prim.Native.Nat.{_-_, _≤_}
+use Prim.Native.Nat.{_-_}
 use Rattle.sections.specs.RiseLaws.{Between, between-all}
-use borrow.Author.Needs.{needs}
 use Rattle.sections.proofs.rise.first_past.Statement.{statement}
 use Rattle.sections.proofs.rise.first_past.Tie as tie
 

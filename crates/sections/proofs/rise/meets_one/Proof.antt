@@ -1,6 +1,5 @@
 use native.Mathlib.Omega.{arith}
 use Rattle.sections.specs.RiseLaws.{meets-tested, meets-blocked}
-use borrow.Author.Needs.{needs}
 use Rattle.sections.proofs.rise.meets_one.Statement.{statement}
 use Rattle.sections.proofs.rise.meets_one.Tie as tie
 

@@ -1,5 +1,5 @@
 -- A section, written. Assumes nothing.
-use mathlib.Core.Path.{_≡_, refl, sym, ap, _∙_}
+use mathlib.Core.Path.{_≡_, refl, sym, ap}
 use mathlib.Core.List.{_++_}
 use Prim.Native.Nat.{_+_, _-_, _*_, _^_, _≤_, _<_}
 use native.Mathlib.Omega.{arith}
@@ -8,9 +8,9 @@ use Rattle.seqs.specs.Front.{Front, front-from, front-at, front-room-block, fro
 use Rattle.seqs.specs.Wrote.{head-length, put-end}
 use Rattle.geom.specs.Point.{point}
 use Rattle.geom.specs.Sewing.{flat}
+use Rattle.geom.specs.SewingLaws.{flat-none}
 use Rattle.rules.specs.Fill.{sewn, section}
 use Rattle.sewing.specs.Sewing.{entriesIn, numbersIn, sewTo, back, targets}
-use Rattle.sewing.specs.Flat.{flat-none}
 use Rattle.sewing.proofs.Walks.{rest-sewn, rest-none, start-on, start-sewn, step-low, step-high, step-on, put-on}
 use borrow.Author.Needs.{needs}
 use Rattle.sewing.proofs.section.put_section.Statement.{statement}
@@ -79,7 +79,7 @@ returns : tie.Need-returns Inv-loop μ-loop
 returns c =
     let a = c .before .before .before .before .before .before .before .before .before .args in
     let l = c .before .loop in
-    put-end (flat (sewn (a .f .g) (a .f .stagger) (section (entriesIn (a .f) (a .floats .now) (a .wholes .now)) (a .s)))) (a .k) (omega (arith, c .before .before .before .before .before .before .before .before .before .pre .2)) (front-at (ap flat (rest-none (a .f) (a .floats .now) (a .wholes .now) (a .s) (l .pen) (l .j) (c .loop-test .left)) ∙ flat-none) (l .inv .3))
+    put-end (flat (sewn (a .f .g) (a .f .stagger) (section (entriesIn (a .f) (a .floats .now) (a .wholes .now)) (a .s)))) (a .k) (omega (arith, c .before .before .before .before .before .before .before .before .before .pre .2)) (front-at (flat-none (rest-none (a .f) (a .floats .now) (a .wholes .now) (a .s) (l .pen) (l .j) (c .loop-test .left))) (l .inv .3))
 
 pub put-section-spec : {M : Type 1} → statement M
 put-section-spec =

@@ -1,15 +1,15 @@
 -- All sections, written. Assumes nothing.
-use mathlib.Core.Path.{sym, ap, _∙_}
+use mathlib.Core.Path.{sym, ap}
 use mathlib.Core.List.{map}
 use Prim.Native.Nat.{_+_, _-_, _/_, _≤_}
 use native.Mathlib.Omega.{arith}
 use Rattle.seqs.specs.Lists.{each}
 use Rattle.seqs.specs.Front.{Front, front-start, front-at, front-push, front-end, front-room-block, front-whole}
 use Rattle.geom.specs.Sewing.{flat}
+use Rattle.geom.specs.SewingLaws.{flat-none}
 use Rattle.rules.specs.Fill.{sewn, section}
 use Rattle.rules.specs.Calls.{sewnPoints, sewnEnds}
 use Rattle.sewing.specs.Sewing.{entriesIn, firstSections}
-use Rattle.sewing.specs.Flat.{flat-none}
 use Rattle.sewing.specs.LinkedLaws.{linked-less}
 use Rattle.sewing.proofs.Walks.{sewnRest, all-start, all-none, all-flat, all-ends, ends-none}
 use borrow.Author.Needs.{needs}
@@ -67,7 +67,7 @@ returns c =
     let a = c .before .before .before .before .before .before .args in
     let l = c .before .loop in
     let es = entriesIn (a .f) (a .floats .now) (a .wholes .now) in (
-      (front-end (front-at (ap (λ y. flat (each (λ x. x) y)) (all-none (a .f .g) (a .f .stagger) es (l .s) (a .sections) (search needs)) ∙ flat-none) (l .inv .1))),
+      (front-end (front-at (flat-none (ap (λ y. each (λ x. x) y) (all-none (a .f .g) (a .f .stagger) es (l .s) (a .sections) (search needs)))) (l .inv .1))),
       (front-end (front-at (ends-none (a .f .g) (a .f .stagger) es (l .s) (a .sections) (l .at / 2) (search needs)) (l .inv .2))),
     )
 

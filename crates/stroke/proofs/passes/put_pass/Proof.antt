@@ -5,10 +5,11 @@ use mathlib.Core.List.{_++_}
 use lib.ListN.{take, drop}
 use Rattle.seqs.specs.Front.{Front, front-from, front-at}
 use Rattle.seqs.specs.Wrote.{put-end}
+use Rattle.seqs.specs.Reverse.{place-below}
 use Rattle.geom.specs.Sewing.{flat}
 use Rattle.geom.specs.SewingLaws.{flat-none, flat-length}
 use Rattle.stroke.specs.Running.{pass, standing}
-use Rattle.stroke.specs.RunningLaws.{turned, place-below, pass-length, pass-none, standing-length}
+use Rattle.stroke.specs.RunningLaws.{turned, pass-length, pass-none, standing-length}
 use Rattle.stroke.proofs.PassSteps.{pass-room, pass-step}
 use borrow.Author.Needs.{needs}
 use Rattle.stroke.proofs.passes.put_pass.Statement.{statement}

@@ -2,14 +2,13 @@
 use mathlib.Core.Path.{refl, sym, _∙_}
 use native.Mathlib.Omega.{arith}
 use Prim.Native.Nat.{_*_}
-use lib.ListN.{length, take}
+use lib.ListN.{take}
 use lib.Seq.{length-take-le}
 use borrow.Author.Tests.{not-true, not-false}
 use Rattle.refusal.specs.Refusal.{DONE}
-use Rattle.rules.specs.Calls.{listedFloats, listedRows, listedSections}
 use Rattle.sewing.specs.Sewing.{numbersIn}
 use Rattle.sewing.specs.LinkedLaws.{numbers-length}
-use Rattle.tatami.specs.Stages.{listOf, rowsIn}
+use Rattle.tatami.specs.Stages.{rowsIn}
 use Rattle.finding.specs.FindLaws.{spans-rows}
 use Rattle.tatami.specs.EntryLaws.{layout, few-pieces, few-rows, lent-rise, count-is, floats-listed, rows-listed, sections-listed, rows-length, counts-in}
 use Rattle.tatami.specs.RoomLaws.{list-room}

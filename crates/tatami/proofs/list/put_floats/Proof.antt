@@ -3,7 +3,7 @@ use mathlib.Core.Path.{ap, _∙_}
 use mathlib.Core.List.{_++_}
 use native.Mathlib.Omega.{arith}
 use Prim.Native.Nat.{_-_, _≤_}
-use lib.ListN.{take, drop, length}
+use lib.ListN.{take, drop}
 use lib.Seq.{length-take-le}
 use Rattle.seqs.specs.Front.{Front, front-start, front-at, front-push, front-end}
 use Rattle.seqs.specs.Reads.{part-next, part-none}

@@ -3,7 +3,7 @@ use mathlib.Core.Path.{_≡_, ap, _∙_}
 use mathlib.Core.List.{_++_, map}
 use native.Mathlib.Omega.{arith}
 use Prim.Native.Nat.{_-_, _≤_}
-use lib.ListN.{drop, getD, length, length-map}
+use lib.ListN.{drop, getD, length-map}
 use Rattle.seqs.specs.Lists.{upto}
 use Rattle.seqs.specs.Front.{Front, front-start, front-at, front-push, front-end}
 use Rattle.seqs.specs.Upto.{upto-next, upto-none, upto-length}

@@ -1,7 +1,6 @@
 -- The first row met. Assumes nothing.
 use mir.Syntax.{w64}
 use mir.ValLaws.{toZ-ofZ}
-use borrow.Author.Needs.{needs}
 use Rattle.tatami.proofs.sew.field_of.Statement.{statement}
 use Rattle.tatami.proofs.sew.field_of.Tie as tie
 

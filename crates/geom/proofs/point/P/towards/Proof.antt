@@ -1,9 +1,9 @@
 use lib.Ieee.{ofBits, round}
-use Rattle.numbers.specs.Num.{literal}
-use Rattle.geom.specs.Point.{tiny, norm}
 use borrow.Author.Needs.{needs}
-use Rattle.styles.proofs.bent.towards.Statement.{statement}
-use Rattle.styles.proofs.bent.towards.Tie as tie
+use Rattle.numbers.specs.Num.{literal}
+use Rattle.geom.specs.Point.{norm, tiny}
+use Rattle.geom.proofs.point.P.towards.Statement.{statement}
+use Rattle.geom.proofs.point.P.towards.Tie as tie
 
 returns : tie.Need-returns
 unfolding norm tiny literal round ofBits

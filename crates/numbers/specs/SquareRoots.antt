@@ -1,9 +1,9 @@
 -- A number's square, rounded, has that number for its root: the rounding moves the square by less than half a place of the number. Assumes nothing.
 use mathlib.Core.Path.{_≡_, refl, sym, ap, subst, _∙_}
-use mathlib.Core.Bool.{Bool, true, false, not}
+use mathlib.Core.Bool.{true, false, not}
 use mathlib.Core.Logic.{_⊎_, inl, inr}
-use Prim.Native.Nat.{ℕ, suc, _+_, _-_, _*_, _/_, _%_, _^_, _≤_, _<_, compare, Ordering, Ordering·lt, Ordering·eq, Ordering·gt}
-use native.Mathlib.Nat.{mul-assoc, mul-pos, mul-le-mul, mul-le-mul-right, mul-lt-mul-of-pos-right, le-of-mul-le-mul-right, lt-of-mul-lt-mul-right, eq-of-mul-eq-mul-right, le-trans, le-of-eq, le-of-lt, lt-of-lt-of-le, lt-of-le-of-lt, lt-of-not-le, not-le-of-lt, le-antisymm, eq-or-lt-of-le, le-div-iff-mul-le, div-add-mod', mod-lt}
+use Prim.Native.Nat.{ℕ, _+_, _-_, _*_, _/_, _%_, _^_, _≤_, _<_, compare, Ordering, Ordering·lt, Ordering·eq, Ordering·gt}
+use native.Mathlib.Nat.{mul-assoc, mul-pos, mul-le-mul, mul-le-mul-right, le-of-mul-le-mul-right, lt-of-mul-lt-mul-right, eq-of-mul-eq-mul-right, le-trans, le-of-eq, le-of-lt, lt-of-lt-of-le, lt-of-le-of-lt, lt-of-not-le, not-le-of-lt, le-antisymm, eq-or-lt-of-le, le-div-iff-mul-le, div-add-mod', mod-lt}
 use native.Mathlib.Decide.{decLe}
 use native.Mathlib.Omega.{arith}
 use lib.Dec.{T, isLe, isEq, leb→le, nleb→lt, eqb→eq, lit≤}
@@ -17,12 +17,13 @@ use lib.Ieee.Nearest.{closest, closest-same}
 use lib.Ieee.Exact.{HasValue}
 use lib.Ieee.Positive.{positive-of-value, mul-at}
 use lib.Ieee.Scale as scale
 use Rattle.numbers.specs.Num.{_⊗_, zero64}
 use Rattle.numbers.specs.Root.{root}
 use Rattle.numbers.specs.Order.{negative, finite}
 use Rattle.numbers.specs.Value.{unitsOf, Nearer, AtLeast}
-use Rattle.numbers.specs.Units.{Grid, grid, pow-le-back, units-exact, same-units}
+use Rattle.numbers.specs.Units.{Grid, grid, pow-le-back, units-exact, units-of, same-units}
+use Rattle.numbers.specs.RootNearest.{multiple, scaled}
 use Rattle.numbers.specs.Roots.{root-has}
 
 -- ---- the nearest multiple of p
 
@@ -40,21 +41,6 @@ closest-near s p P =
     let n = near (s / p) (s % p) p (compare (s % p * 2) p) (mod-lt s P) (leb→le (s % p * 2) p) (nleb→lt (s % p * 2) p) (eqb→eq (s % p * 2) p) in
     let e = div-add-mod' s p in
     (omega (arith, n .0, e), omega (arith, n .1, e))
-
--- ---- from 2 ^ 52 * 2 ^ k on, a value is a multiple of 2 ^ k
-multiple : (k y : ℕ) → Grid y → 2 ^ 52 * 2 ^ k ≤ y → (c : ℕ) × (y ≡ c * 2 ^ k)
-multiple k y g h = go (decLe k (g .places))
-  where
-    go : Dec (k ≤ g .places) → (c : ℕ) × (y ≡ c * 2 ^ k)
-    go (yes l) =
-        let e : (g .places - k) + k ≡ g .places = omega arith in
-        (g .digits * 2 ^ (g .places - k), g .is ∙ ap (λ (x : ℕ). g .digits * 2 ^ x) (sym e) ∙ ap (λ (x : ℕ). g .digits * x) (pow-add 2 (g .places - k) k) ∙ sym (mul-assoc (g .digits) (2 ^ (g .places - k)) (2 ^ k)))
-    go (no f) =
-        let l : suc (g .places) ≤ k = lt-of-not-le f in
-        let a : 53 + g .places ≤ 52 + k = omega arith in
-        absurd (not-le-of-lt
-        (lt-of-lt-of-le (mul-lt-mul-of-pos-right (g .short) (pow-pos (g .places))) (le-trans (le-of-eq (sym (pow-add 2 53 (g .places)))) (le-trans (pow-mono a) (le-of-eq (pow-add 2 52 k)))))
-        (le-trans h (le-of-eq (g .is))))
 
 -- ---- y is d * q with 53 digits d; n is the multiple of p nearest to its square, and p at most the square's last place
 module _ (d q p n : ℕ) (Q : 0 < q) (low : 2 ^ 52 ≤ d) (high : d < 2 ^ 53) (last : 2 ^ 52 * p ≤ d * d * (q * q)) (over : 2 * n ≤ 2 * (d * d * (q * q)) + p) (under : 2 * (d * d * (q * q)) ≤ 2 * n + p) where
@@ -79,9 +65,6 @@ digit d h = omega arith
 
 squares : (a b : ℕ) → a ≤ b → a * a ≤ b * b
 squares a b h = mul-le-mul h h
-
-scaled : (a q : ℕ) → (a * q) * (a * q) ≡ a * a * (q * q)
-scaled a q = omega arith
 
 record Placed (y : ℕ) : Type 0 where
   d : ℕ
@@ -204,11 +187,6 @@ still-finite nan h = h
 still-finite (inf s) h = h
 still-finite (fin s m e) h = tt
 
-units-of : (v : Float) (s : Bool) (a : ℕ) → T (fits binary64 v) → HasValue v s a (2 ^ 1074) → unitsOf v ≡ a
-units-of nan s a f h = absurd h
-units-of (inf t) s a f h = absurd h
-units-of (fin t m e) s a f h = eq-of-mul-eq-mul-right (down e) (down-pos e) (unitsOf (fin t m e)) a (sym (units-exact t m e f) ∙ h .1)
-
 module _ (m : ℕ) (e : ℤ) (f : T (fits binary64 (fin false m e))) (some : AtLeast 500 (fin false m e)) (g : T (finite (fin false m e ⊗ fin false m e))) (h : T (lt zero64 (fin false m e ⊗ fin false m e))) where
   abbrev y : Float
   y = fin false m e
@@ -244,7 +222,7 @@ module _ (m : ℕ) (e : ℤ) (f : T (fits binary64 (fin false m e))) (some : AtL
 
   square-units : unitsOf (y ⊗ y) ≡ closest (u * u * l) (l * l * 2 ^ t) * 2 ^ t
   unfolding t
-  square-units = units-of (y ⊗ y) false (scale.grid binary64 (u * u) (l * l)) (mul-fits binary64 y y) (rw square-is (scale.round-val binary64 (u * u) (l * l) (scale.round-under binary64 (u * u) (l * l) (still-finite _ (rw square-is at g)))))
+  square-units = eq-of-mul-eq-mul-right l (pow-pos 1074) _ _ (units-of (y ⊗ y) false (scale.grid binary64 (u * u) (l * l)) l (pow-pos 1074) (mul-fits binary64 y y) (rw square-is (scale.round-val binary64 (u * u) (l * l) (scale.round-under binary64 (u * u) (l * l) (still-finite _ (rw square-is at g))))) .0)
 
   is : unitsOf (y ⊗ y) * l ≡ closest (u * u) (2 ^ (t + 1074)) * 2 ^ (t + 1074)
   is =
