@@ -14,7 +14,7 @@ use Rattle.numbers.specs.Num.{_⊗_, _⊘_, literal, zero64, real}
 use Rattle.numbers.specs.Order.{finite, larger}
 use Rattle.numbers.specs.Root.{root}
 use Rattle.numbers.specs.Whole.{ceil}
-use Rattle.numbers.specs.Value.{unitsOf, Within, IsWhole}
+use Rattle.numbers.specs.Value.{unitsOf, Within}
 use Rattle.numbers.specs.Floors.{value-units}
 use Rattle.numbers.specs.Laws as laws
 use Rattle.geom.specs.Point.{one}
