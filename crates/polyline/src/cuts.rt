@@ -1,8 +1,11 @@
 // How many stitches a piece takes, and which pieces take as many.
 ghost use mathlib.Core.Path.{_≡_};
 ghost use Prim.Native.Nat.{_<_};
+ghost use lib.Ieee.{lt};
+ghost use Rattle.numbers.specs.Root.{root};
+ghost use Rattle.geom.specs.Steps.{steps};
 ghost use Rattle.polyline.specs.Cuts.{squareSteps, between, Told};
-ghost use Rattle.polyline.specs.Line.{pieceSteps};
+ghost use Rattle.polyline.specs.Line.{shortest, pieceSteps};
 use geom::P;
 use geom::steps::steps;
 use leaves::of_u64;
@@ -32,15 +35,31 @@ pub fn alike(lo: f64, hi: f64, len: f64) -> u64
     0
 }
 
+// The steps of a squared length d, by its root.
+pub fn root_steps(d: f64, len: f64) -> u64
+    ensures { λ r. ⌜ r ≡ steps (root d) len ⌝ }
+{
+    steps(root(d), len)
+}
+
+// Whether a piece of squared length d is skipped.
+fn skipped(d: f64) -> bool
+    ensures { λ r. ⌜ r ≡ lt (root d) shortest ⌝ }
+{
+    if d > 1e-17 {
+        return false;
+    }
+    root(d) < 1e-9
+}
+
 // The steps of a piece of squared length d: none where it is skipped.
 pub fn square_steps(d: f64, len: f64) -> u64
     ensures { λ r. ⌜ r ≡ squareSteps d len ⌝ }
 {
-    let r = root(d);
-    if r < 1e-9 {
+    if skipped(d) {
         return 0;
     }
-    steps(r, len)
+    root_steps(d, len)
 }
 
 // How many stitches lead from a to b: none where the piece is skipped.

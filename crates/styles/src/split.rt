@@ -16,12 +16,11 @@ ghost use Rattle.styles.specs.Sides.{sideTo, laterSides};
 use geom::P;
 use geom::sewing::corner;
 use geom::sewing::put_point;
-use geom::steps::steps;
 use leaves::of_u64;
-use leaves::quick::root;
 use polyline::alike::known;
 use polyline::alike::learnt;
 use polyline::alike::pieces_of;
+use polyline::cuts::root_steps;
 use refusal::DONE;
 use refusal::ROOM;
 use refusal::Sewn;
@@ -39,14 +38,7 @@ fn stagger(k: u64) -> f64
     -0.33
 }
 
-// How many points a side of squared length d has, its last among them.
-fn side_points(d: f64, max: f64) -> u64
-    ensures { λ r. ⌜ r ≡ steps (root d) max ⌝ }
-{
-    steps(root(d), max)
-}
-
-// The same: k, or looked at anew where k is 0.
+// How many points a side of squared length d has, its last among them: k, or looked at anew where k is 0.
 fn points_of(k: u64, d: f64, max: f64) -> u64
     requires { ⌜ (0 < k → k ≡ squareSteps d max) ⌝ }
     ensures { λ r. ⌜ r ≡ steps (root d) max ⌝ }
@@ -54,7 +46,7 @@ fn points_of(k: u64, d: f64, max: f64) -> u64
     if k > 0 {
         return k;
     }
-    side_points(d, max)
+    root_steps(d, max)
 }
 
 // Where part j of n ends.
