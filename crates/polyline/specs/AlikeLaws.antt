@@ -5,6 +5,7 @@ use mathlib.Core.Path.{_≡_}
 use mathlib.Core.Logic.{inl, inr}
 use lib.Ieee.{Float, lt}
 use Rattle.numbers.specs.Num.{zero64}
+use Rattle.numbers.specs.Root.{root}
 use Rattle.numbers.specs.Laws as laws
 use Rattle.numbers.specs.Laws.{holds}
 use Rattle.seqs.specs.Tests.{either}
@@ -23,9 +24,14 @@ unfolding squareSteps pieceSteps dist len
 squared a b v d l e g = rw (g, e)
 
 -- a piece that isn't skipped takes the steps of its length
-pub not-skipped : (a b : P) (l : Float) (n : ℕ) → 0 < n → n ≡ pieceSteps a b l → n ≡ steps (dist a b) l
-unfolding pieceSteps
-not-skipped a b l n h e = elim (either (lt (dist a b) shortest)) [
+pub not-skipped : (d l : Float) (n : ℕ) → 0 < n → n ≡ squareSteps d l → n ≡ steps (root d) l
+unfolding squareSteps
+not-skipped d l n h e = elim (either (lt (root d) shortest)) [
   | inl s ↦ absurd (omega (arith, h, rw s at e))
   | inr s ↦ rw s at e
 ]
+
+-- the root of the squared length from a to b is the length
+pub root-dist : (a b v : P) (d : Float) → v ≡ minus a b → d ≡ dot v v → root d ≡ dist a b
+unfolding dist len
+root-dist a b v d e g = rw (g, e)

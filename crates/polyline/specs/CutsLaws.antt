@@ -9,12 +9,12 @@ use mathlib.Core.Logic.{inl, inr}
 use lib.Dec.{T, le→leb, lit≤}
 use lib.IntN.{pos}
 use lib.Ieee.Back.{unsigned-back, round-whole}
-use lib.Ieee.{Float, binary64, fits, round, lt, le, isNan, ofInt, toUnsigned, inFloat}
+use lib.Ieee.{Float, binary64, fits, round, mul, lt, le, isNan, ofInt, toUnsigned, inFloat}
 use Rattle.numbers.specs.Num.{_⊗_, _⊘_, literal, zero64, real}
 use Rattle.numbers.specs.Order.{finite, larger}
 use Rattle.numbers.specs.Root.{root}
 use Rattle.numbers.specs.Whole.{ceil}
-use Rattle.numbers.specs.Value.{unitsOf, Within, IsWhole}
+use Rattle.numbers.specs.Value.{unitsOf, Within}
 use Rattle.numbers.specs.Floors.{value-units}
 use Rattle.numbers.specs.Laws as laws
 use Rattle.geom.specs.Point.{one}
@@ -104,6 +104,25 @@ not-less x y h = go (lt y x) refl
     go : (b : Bool) → lt y x ≡ b → b ≡ false
     go true e = absurd (laws.le-lt-clash x y h (laws.holds e))
     go false e = refl
+
+-- 1e-17
+abbrev pub small : Float
+small = literal 1 (10 ^ 17)
+
+square-small : T (lt (shortest ⊗ shortest) small)
+unfolding shortest literal round mul lt
+square-small = tt
+
+shortest-fits : T (fits binary64 shortest)
+unfolding shortest literal round fits
+shortest-fits = tt
+
+-- what is over 1e-17 has no root under 1e-9
+pub not-shortest : (d : Float) → T (fits binary64 d) → T (lt small d) → lt (root d) shortest ≡ false
+not-shortest d f h =
+    let r = laws.lt-trans (shortest ⊗ shortest) small d square-small h in
+    let z = laws.le-lt-trans zero64 (shortest ⊗ shortest) d (laws.square-up shortest shortest-fine) r in
+    not-less shortest (root d) (laws.root-over d shortest f shortest-fits shortest-fine z (shortest-above shortest (laws.le-refl shortest (laws.finite-number shortest shortest-fine))) r)
 
 -- d's root lies between lo and hi, both long enough to be sewn, and len can be divided by
 record Between (d lo hi len : Float) : Type 0 where

@@ -1,5 +1,7 @@
 // Pieces that take as many steps, told by their squared length: a line's pieces are mostly like the last ones, and ask for no root.
 ghost use mathlib.Core.Path.{_≡_};
+ghost use Prim.Native.Nat.{_<_};
+ghost use lib.Ieee.{Float};
 ghost use Rattle.polyline.specs.Cuts.{squareSteps, Told};
 use crate::cuts::alike;
 use crate::cuts::square_steps;
@@ -35,31 +37,57 @@ pub fn pieces_of(n: u64, len: f64) -> Alike
     }
 }
 
-// Pieces like one of squared length d: those of one step, those like s, or others, which are looked at anew.
-pub fn piece_of(d: f64, len: f64, one: Alike, s: Alike) -> Alike
-    requires { ⌜ Told len one × Told len s ⌝ }
-    ensures { λ r. ⌜ Told len r × (r .n ≡ squareSteps d len) ⌝ }
+// The steps of a piece of squared length d that is like s; otherwise 0.
+fn like(d: f64, s: Alike) -> u64
+    ensures { λ r. ⌜ ((len : Float) → Told len s → 0 < r → r ≡ squareSteps d len) ⌝ }
 {
-    if one.from < d {
-        if d < one.to {
-            return one;
-        }
-    }
     if s.from < d {
         if d < s.to {
-            return s;
+            return s.n;
         }
     }
-    pieces_of(square_steps(d, len), len)
+    0
 }
 
-// What is known of longer pieces, after a piece like r.
-pub fn longer(len: f64, r: Alike, s: Alike) -> Alike
-    requires { ⌜ Told len r × Told len s ⌝ }
-    ensures { λ t. ⌜ Told len t ⌝ }
+// The larger of k and what s tells: both are the steps, or 0. Which of them knows can't be guessed, so no branch hangs on it.
+fn also(k: u64, d: f64, s: Alike) -> u64
+    ensures { λ r. ⌜ ((len : Float) → Told len s → (0 < k → k ≡ squareSteps d len) → 0 < r → r ≡ squareSteps d len) ⌝ }
 {
-    if r.n > 1 {
-        return r;
+    let n = like(d, s);
+    if k < n {
+        return n;
     }
-    s
+    k
+}
+
+// The steps of a piece of squared length d that is like one of these; otherwise 0.
+pub fn known(d: f64, one: Alike, two: Alike, s: Alike) -> u64
+    ensures { λ r. ⌜ ((len : Float) → Told len one → Told len two → Told len s → 0 < r → r ≡ squareSteps d len) ⌝ }
+{
+    also(also(like(d, one), d, two), d, s)
+}
+
+// The steps of a piece of squared length d: k, or looked at anew where k is 0.
+pub fn steps_of(k: u64, d: f64, len: f64) -> u64
+    requires { ⌜ (0 < k → k ≡ squareSteps d len) ⌝ }
+    ensures { λ r. ⌜ r ≡ squareSteps d len ⌝ }
+{
+    if k > 0 {
+        return k;
+    }
+    square_steps(d, len)
+}
+
+// What is told of other pieces, after a piece of n steps of which k was known: they are looked at where the piece before it took as many.
+pub fn learnt(k: u64, n: u64, before: u64, len: f64, s: Alike) -> Alike
+    requires { ⌜ Told len s ⌝ }
+    ensures { λ r. ⌜ Told len r ⌝ }
+{
+    if k > 0 {
+        return s;
+    }
+    if n != before {
+        return s;
+    }
+    pieces_of(n, len)
 }

@@ -1,7 +1,9 @@
 // A line of corners: its length, and the stitches along it that keep every corner.
 ghost use mathlib.Core.Path.{_≡_};
 ghost use Prim.Native.Nat.{_+_, _*_, _^_, _<_, _≤_};
+ghost use lib.IntN.{pos};
 ghost use lib.ListN.{length};
+ghost use Rattle.numbers.specs.Num.{_⊘_, real};
 ghost use Rattle.refusal.specs.Sewn.{sewn, output};
 ghost use Rattle.seqs.specs.Slices.{put, capped};
 ghost use Rattle.geom.specs.Outline.{points};
@@ -11,12 +13,12 @@ ghost use Rattle.polyline.specs.Line.{polylineLength, stepsFrom, pieces,
 pub mod alike;
 pub mod cuts;
 
-use alike::longer;
-use alike::piece_of;
+use alike::known;
+use alike::learnt;
 use alike::pieces_of;
+use alike::steps_of;
 pub use cuts::piece_steps;
 use geom::P;
-use geom::sewing::add_within;
 use geom::sewing::corner;
 use geom::sewing::put_point;
 use geom::steps::along;
@@ -50,25 +52,47 @@ pub fn count_line(line: &[f64], len: f64, room: u64) -> u64
     if line.len() < 2 {
         return 0;
     }
+    if room == 0 {
+        return 1;
+    }
     let mut p = corner(line, 0);
     let one = pieces_of(1, len);
-    let mut s = one;
+    let two = pieces_of(2, len);
+    let mut s = two;
+    let mut m: u64 = 0;
     let mut c: u64 = 1;
     let mut i = 2;
     while i + 1 < line.len() {
         let q = corner(line, i);
         let v = p.minus(q);
-        let r = piece_of(v.dot(v), len, one, s);
-        c = add_within(c, r.n, room);
-        s = longer(len, r, s);
+        let d = v.dot(v);
+        let k = known(d, one, two, s);
+        let n = steps_of(k, d, len);
+        if n > room - c {
+            return room + 1;
+        }
+        c += n;
+        s = learnt(k, n, m, len, s);
+        m = n;
         p = q;
         i += 2;
     }
     c
 }
 
+// The first step's part of a piece of one or two.
+fn first_part(n: u64) -> f64
+    requires { ⌜ (0 < n) × (n ≤ 2) ⌝ }
+    ensures { λ r. ⌜ r ≡ real (pos 1) ⊘ real (pos n) ⌝ }
+{
+    if n < 2 {
+        return 1.0;
+    }
+    0.5
+}
+
 // The ends of the n steps from a to b, from k on; answers the place after them.
-pub fn put_piece(out: &mut [f64], k: usize, a: P, b: P, n: u64) -> usize
+pub fn put_steps(out: &mut [f64], k: usize, a: P, b: P, n: u64) -> usize
     requires { ⌜ k + 2 * n ≤ length (now out) ⌝ }
     ensures { λ r. ⌜ (now (out .exit) ≡ put (now (out .entry)) k (flat (stepsFrom a b n 1 n))) × (r ≡ k + 2 * n) ⌝ }
 {
@@ -82,6 +106,23 @@ pub fn put_piece(out: &mut [f64], k: usize, a: P, b: P, n: u64) -> usize
     at
 }
 
+// The same, with no branch between one step and two: the first end, and the last over it or after it.
+pub fn put_piece(out: &mut [f64], k: usize, a: P, b: P, n: u64) -> usize
+    requires { ⌜ k + 2 * n ≤ length (now out) ⌝ }
+    ensures { λ r. ⌜ (now (out .exit) ≡ put (now (out .entry)) k (flat (stepsFrom a b n 1 n))) × (r ≡ k + 2 * n) ⌝ }
+{
+    if n == 0 {
+        return k;
+    }
+    if n > 2 {
+        return put_steps(out, k, a, b, n);
+    }
+    put_point(out, k, a.lerp(b, first_part(n)));
+    let last = k + 2 * (n as usize - 1);
+    put_point(out, last, a.lerp(b, 1.0));
+    last + 2
+}
+
 // All points after the first corner, from k on; answers the place after them.
 fn put_pieces(out: &mut [f64], k: usize, line: &[f64], len: f64) -> usize
     requires { ⌜ (1 < length (now line)) × (k + length (flat (pieces (points (now line)) len)) ≤ length (now out)) ⌝ }
@@ -89,15 +130,20 @@ fn put_pieces(out: &mut [f64], k: usize, line: &[f64], len: f64) -> usize
 {
     let mut p = corner(line, 0);
     let one = pieces_of(1, len);
-    let mut s = one;
+    let two = pieces_of(2, len);
+    let mut s = two;
+    let mut m: u64 = 0;
     let mut at = k;
     let mut i = 2;
     while i + 1 < line.len() {
         let q = corner(line, i);
         let v = p.minus(q);
-        let r = piece_of(v.dot(v), len, one, s);
-        at = put_piece(out, at, p, q, r.n);
-        s = longer(len, r, s);
+        let d = v.dot(v);
+        let told = known(d, one, two, s);
+        let n = steps_of(told, d, len);
+        at = put_piece(out, at, p, q, n);
+        s = learnt(told, n, m, len, s);
+        m = n;
         p = q;
         i += 2;
     }

@@ -11,11 +11,7 @@ use Rattle.numbers.specs.Laws as laws
 use Rattle.numbers.specs.Laws.{holds}
 use Rattle.seqs.specs.Tests.{refute, is-true}
 use Rattle.geom.specs.declared.point.P.{P}
-use Rattle.geom.specs.Point.{minus, dot, len, dist}
-use Rattle.geom.specs.Steps.{steps}
-use Rattle.polyline.specs.declared.alike.Alike.{Alike}
-use Rattle.polyline.specs.Cuts.{Told}
-use Rattle.polyline.specs.AlikeLaws.{squared, not-skipped}
+use Rattle.geom.specs.Point.{minus, dot, len}
 use Rattle.satinrules.specs.Column.{bends}
 
 -- ---- 6, its square, and the float after that
@@ -55,7 +51,3 @@ module _ (p q v : P) (d : Float) (e : v ≡ minus q p) (g : d ≡ dot v v) where
 
   pub bent : le past d ≡ true → true ≡ bends p q
   bent h = sym (over-six d (square-fits v d g) (holds h)) ∙ bends-square
-
--- sides like one of squared length d, the one from p to q, have as many points
-pub side-told : (p q v : P) (d max : Float) → v ≡ minus p q → d ≡ dot v v → (s : Alike) → Told max s → lt (s .from) d ≡ true → lt d (s .to) ≡ true → s .n ≡ steps (dist p q) max
-side-told p q v d max e g s t h k = let r = t d (square-fits v d g) h k in not-skipped p q max (s .n) (r .0) (r .1 ∙ squared p q v d max e g)

@@ -6,22 +6,21 @@ ghost use lib.ListN.{length};
 ghost use Rattle.refusal.specs.Sewn.{sewn, output};
 ghost use Rattle.seqs.specs.Slices.{put, capped};
 ghost use Rattle.geom.specs.Outline.{points};
+ghost use Rattle.numbers.specs.Root.{root};
 ghost use Rattle.geom.specs.Point.{dist};
 ghost use Rattle.geom.specs.Steps.{steps};
 ghost use Rattle.geom.specs.Sewing.{flat, fitted};
-ghost use Rattle.polyline.specs.Cuts.{Told};
+ghost use Rattle.polyline.specs.Cuts.{squareSteps};
 ghost use Rattle.satinrules.specs.Column.{stagger, partEnd, partsFrom, splitSide, splitLong};
 ghost use Rattle.styles.specs.Sides.{sideTo, laterSides};
 use geom::P;
-use geom::sewing::add_within;
 use geom::sewing::corner;
 use geom::sewing::put_point;
-use geom::steps::steps;
 use leaves::of_u64;
-use polyline::alike::Alike;
-use polyline::alike::longer;
+use polyline::alike::known;
+use polyline::alike::learnt;
 use polyline::alike::pieces_of;
-use polyline::piece_steps;
+use polyline::cuts::root_steps;
 use refusal::DONE;
 use refusal::ROOM;
 use refusal::Sewn;
@@ -39,35 +38,15 @@ fn stagger(k: u64) -> f64
     -0.33
 }
 
-// How many points a side has, its last among them: a side that resampling would skip has some too.
-fn points_of(p: P, q: P, max: f64) -> u64
-    ensures { λ r. ⌜ r ≡ steps (dist p q) max ⌝ }
+// How many points a side of squared length d has, its last among them: k, or looked at anew where k is 0.
+fn points_of(k: u64, d: f64, max: f64) -> u64
+    requires { ⌜ (0 < k → k ≡ squareSteps d max) ⌝ }
+    ensures { λ r. ⌜ r ≡ steps (root d) max ⌝ }
 {
-    let n = piece_steps(p, q, max);
-    if n > 0 {
-        return n;
+    if k > 0 {
+        return k;
     }
-    steps(p.dist(q), max)
-}
-
-// Sides like the one from p to q: those with one point, those like s, or others, which are looked at anew.
-fn side_of(p: P, q: P, max: f64, one: Alike, s: Alike) -> Alike
-    requires { ⌜ Told max one × Told max s ⌝ }
-    ensures { λ r. ⌜ Told max r × (r .n ≡ steps (dist p q) max) ⌝ }
-{
-    let v = p.minus(q);
-    let d = v.dot(v);
-    if one.from < d {
-        if d < one.to {
-            return one;
-        }
-    }
-    if s.from < d {
-        if d < s.to {
-            return s;
-        }
-    }
-    pieces_of(points_of(p, q, max), max)
+    root_steps(d, max)
 }
 
 // Where part j of n ends.
@@ -114,16 +93,28 @@ pub fn count_split(line: &[f64], max: f64, room: u64) -> u64
     if line.len() < 2 {
         return 0;
     }
+    if room == 0 {
+        return 1;
+    }
     let mut p = corner(line, 0);
     let one = pieces_of(1, max);
-    let mut s = one;
+    let two = pieces_of(2, max);
+    let mut s = two;
+    let mut m: u64 = 0;
     let mut c: u64 = 1;
     let mut i = 2;
     while i + 1 < line.len() {
         let q = corner(line, i);
-        let r = side_of(p, q, max, one, s);
-        c = add_within(c, r.n, room);
-        s = longer(max, r, s);
+        let v = p.minus(q);
+        let d = v.dot(v);
+        let told = known(d, one, two, s);
+        let n = points_of(told, d, max);
+        if n > room - c {
+            return room + 1;
+        }
+        c += n;
+        s = learnt(told, n, m, max, s);
+        m = n;
         p = q;
         i += 2;
     }
@@ -137,15 +128,21 @@ fn put_sides(out: &mut [f64], k: usize, line: &[f64], max: f64) -> usize
 {
     let mut p = corner(line, 0);
     let one = pieces_of(1, max);
-    let mut s = one;
+    let two = pieces_of(2, max);
+    let mut s = two;
+    let mut m: u64 = 0;
     let mut to = k;
     let mut side: u64 = 0;
     let mut i = 2;
     while i + 1 < line.len() {
         let q = corner(line, i);
-        let r = side_of(p, q, max, one, s);
-        to = put_side(out, to, side, p, q, max, r.n);
-        s = longer(max, r, s);
+        let v = p.minus(q);
+        let d = v.dot(v);
+        let told = known(d, one, two, s);
+        let n = points_of(told, d, max);
+        to = put_side(out, to, side, p, q, max, n);
+        s = learnt(told, n, m, max, s);
+        m = n;
         p = q;
         side += 1;
         i += 2;

@@ -19,50 +19,50 @@ use Rattle.polyline.proofs.put_pieces.Statement.{statement}
 use Rattle.polyline.proofs.put_pieces.Tie as tie
 
 abbrev Inv-loop : tie.InvT-loop
-Inv-loop out₀ k line len p₀ one s₀ at₀ i₀ out p s at i = (i ≤ length line) × Front out₀ out at (flat (piecesFrom p (points (drop i line)) len)) (take k out₀ ++ flat (pieces (points line) len)) × Told len s
+Inv-loop out₀ k line len p₀ one two s₀ m₀ at₀ i₀ out p s m at i = (i ≤ length line) × Front out₀ out at (flat (piecesFrom p (points (drop i line)) len)) (take k out₀ ++ flat (pieces (points line) len)) × Told len s
 
 abbrev μ-loop : tie.MeasureT-loop
-μ-loop out₀ k line len p₀ one s₀ at₀ i₀ out p s at i = length line - i
+μ-loop out₀ k line len p₀ one two s₀ m₀ at₀ i₀ out p s m at i = length line - i
 
 loop-holds : tie.Need-loop-holds Inv-loop μ-loop
 loop-holds c =
-    let a = c .before .before .before .before .args in
-    (search needs, rw (c .before .corner .ensures, ← pieces-start (a .line .now) (a .len) (search needs)) (front-from (a .out .now) (flat (pieces (points (a .line .now)) (a .len))) (a .k) (omega (arith, c .before .before .before .before .pre .1))), c .pieces-of .ensures .0)
+    let a = c .before .before .before .before .before .args in
+    (search needs, rw (c .before .before .corner .ensures, ← pieces-start (a .line .now) (a .len) (search needs)) (front-from (a .out .now) (flat (pieces (points (a .line .now)) (a .len))) (a .k) (omega (arith, c .before .before .before .before .before .pre .1))), c .pieces-of2 .ensures .0)
 
-piece-of-requires : tie.Need-piece-of-requires Inv-loop μ-loop
-piece-of-requires c κs = (c .before .before .before .before .before .pieces-of .ensures .0, c .before .before .before .before .loop .inv .2)
+steps-of-requires : tie.Need-steps-of-requires Inv-loop μ-loop
+steps-of-requires c κs = c .known .ensures (c .before .before .before .before .before .before .before .before .before .before .before .args .len) (c .before .before .before .before .before .before .before .pieces-of .ensures .0) (c .before .before .before .before .before .before .pieces-of2 .ensures .0) (c .before .before .before .before .before .loop .inv .2)
 
 put-piece-requires : tie.Need-put-piece-requires Inv-loop μ-loop
 put-piece-requires c κs =
-    let a = c .before .before .before .before .before .before .before .before .before .before .before .args in
-    let l = c .before .before .before .before .before .before .loop in
-    let n = rw (c .before .before .before .before .corner2 .ensures) at (c .before .piece-of .ensures .1 ∙ squared (l .p) (c .before .before .before .before .corner2 .result) _ _ (a .len) (c .before .before .before .minus .ensures) (c .before .before .dot .ensures)) in
-    rw n (piece-room (a .k) (a .line .now) (a .len) (l .p) (l .i) (l .inv .1) (c .before .before .before .before .before .before .before .before .before .before .before .pre .1) (search needs))
+    let a = c .before .before .before .before .before .before .before .before .before .before .before .before .before .args in
+    let l = c .before .before .before .before .before .before .before .loop in
+    let n = rw (c .before .before .before .before .before .corner2 .ensures) at (c .before .steps-of .ensures ∙ squared (l .p) (c .before .before .before .before .before .corner2 .result) _ _ (a .len) (c .before .before .before .before .minus .ensures) (c .before .before .before .dot .ensures)) in
+    rw n (piece-room (a .k) (a .line .now) (a .len) (l .p) (l .i) (l .inv .1) (c .before .before .before .before .before .before .before .before .before .before .before .before .before .pre .1) (search needs))
 
-longer-requires : tie.Need-longer-requires Inv-loop μ-loop
-longer-requires c κs = (c .before .before .before .before .piece-of .ensures .0, c .before .before .before .before .before .before .before .before .before .loop .inv .2)
+learnt-requires : tie.Need-learnt-requires Inv-loop μ-loop
+learnt-requires c κs = c .before .before .before .before .before .before .before .before .before .before .loop .inv .2
 
 add-i : tie.Need-add-i Inv-loop μ-loop
-add-i c = omega (arith, c .before .before .before .before .before .before .before .before .before .before .before .before .before .before .before .good, c .before .before .before .before .before .before .before .before .before .before .loop .inv .0)
+add-i c = omega (arith, c .before .before .before .before .before .before .before .before .before .before .before .before .before .before .before .before .before .good, c .before .before .before .before .before .before .before .before .before .before .before .loop .inv .0)
 
 loop-again : tie.Need-loop-again Inv-loop μ-loop
 loop-again c =
-    let a = c .before .before .before .before .before .before .before .before .before .before .before .before .before .before .before .args in
-    let l = c .before .before .before .before .before .before .before .before .before .before .loop in
-    let q = c .before .before .before .before .before .before .before .before .corner2 .ensures in
-    let n = rw q at (c .before .before .before .before .before .piece-of .ensures .1 ∙ squared (l .p) (c .before .before .before .before .before .before .before .before .corner2 .result) _ _ (a .len) (c .before .before .before .before .before .before .before .minus .ensures) (c .before .before .before .before .before .before .dot .ensures)) in
+    let a = c .before .before .before .before .before .before .before .before .before .before .before .before .before .before .before .before .before .args in
+    let l = c .before .before .before .before .before .before .before .before .before .before .before .loop in
+    let q = c .before .before .before .before .before .before .before .before .before .corner2 .ensures in
+    let n = rw q at (c .before .before .before .before .before .steps-of .ensures ∙ squared (l .p) (c .before .before .before .before .before .before .before .before .before .corner2 .result) _ _ (a .len) (c .before .before .before .before .before .before .before .before .minus .ensures) (c .before .before .before .before .before .before .before .dot .ensures)) in
     let e = rw (q, n) at (c .before .before .before .put-piece .ensures .0) in
-    (search needs, rw (c .before .before .before .put-piece .ensures .1, q, n) (piece-put (a .k) (a .line .now) (a .len) (l .p) (l .i) (l .inv .1) (c .before .before .before .before .before .before .before .before .before .before .before .before .before .before .before .pre .1) (search needs) _ e), c .longer .ensures)
+    (search needs, rw (c .before .before .before .put-piece .ensures .1, q, n) (piece-put (a .k) (a .line .now) (a .len) (l .p) (l .i) (l .inv .1) (c .before .before .before .before .before .before .before .before .before .before .before .before .before .before .before .before .before .pre .1) (search needs) _ e), c .learnt .ensures)
 
 same-length : tie.Need-same-length Inv-loop μ-loop
 same-length c = c .before .loop .inv .1 .len
 
 returns : tie.Need-returns Inv-loop μ-loop
 returns c =
-    let a = c .before .before .before .before .before .before .args in
+    let a = c .before .before .before .before .before .before .before .args in
     let l = c .before .loop in
-    put-end (flat (pieces (points (a .line .now)) (a .len))) (a .k) (omega (arith, c .before .before .before .before .before .before .pre .1)) (front-at (flat-none (pieces-end (a .line .now) (a .len) (l .p) (l .i) (search needs))) (l .inv .1))
+    put-end (flat (pieces (points (a .line .now)) (a .len))) (a .k) (omega (arith, c .before .before .before .before .before .before .before .pre .1)) (front-at (flat-none (pieces-end (a .line .now) (a .len) (l .p) (l .i) (search needs))) (l .inv .1))
 
 pub put-pieces-spec : {M : Type 1} → statement M
 put-pieces-spec =
-    tie.close (tie.spec Inv-loop μ-loop (λ c κs. search needs) (λ c κs. search needs) loop-holds (λ c. search needs) (λ c κs. search needs) (λ c κs. search needs) (λ c κs. search needs) piece-of-requires put-piece-requires longer-requires add-i (λ c. search needs) loop-again same-length returns)
+    tie.close (tie.spec Inv-loop μ-loop (λ c κs. search needs) (λ c κs. search needs) (λ c κs. search needs) loop-holds (λ c. search needs) (λ c κs. search needs) (λ c κs. search needs) (λ c κs. search needs) (λ c κs. search needs) steps-of-requires put-piece-requires learnt-requires add-i (λ c. search needs) loop-again same-length returns)

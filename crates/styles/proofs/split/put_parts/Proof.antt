@@ -1,8 +1,8 @@
 -- `put_parts` meets its contract: the ends of the parts from j on are to be written from `to` on. Assumes nothing.
-use Prim.Native.Nat.{_+_, _-_, _*_, _≤_}
+use Prim.Native.Nat.{_+_, _-_, _≤_}
 use native.Mathlib.Omega.{arith}
 use mathlib.Core.List.{_++_}
-use lib.ListN.{length, take}
+use lib.ListN.{take}
 use Rattle.seqs.specs.Front.{Front, front-from, front-at}
 use Rattle.seqs.specs.Wrote.{put-end}
 use Rattle.geom.specs.Sewing.{flat}

@@ -1,13 +1,8 @@
 -- `put_split` meets its contract: the first corner, and then the sides. Assumes nothing.
-use Prim.Native.Nat.{_+_}
-use mathlib.Core.Path.{_≡_, refl, sym, ap, _∙_}
 use native.Mathlib.Omega.{arith}
-use lib.ListN.{length}
 use Rattle.seqs.specs.Put.{put-none}
-use Rattle.geom.specs.Sewing.{flat}
 use Rattle.geom.specs.SewingLaws.{flat-none}
 use Rattle.satinrules.specs.Column.{splitSide, splitLong}
-use Rattle.styles.specs.Sides.{laterSides}
 use Rattle.styles.specs.SidesLaws.{sides-none, path-size, path-put}
 use Rattle.styles.proofs.Turns.{point-size, sides-size}
 use borrow.Author.Needs.{needs}

@@ -2,7 +2,6 @@ use lib.Ieee.{ofBits, neg, round}
 use borrow.Author.Tests.{eq-eqb, ne-eqb}
 use Rattle.numbers.specs.Num.{literal}
 use Rattle.satinrules.specs.Column.{stagger}
-use borrow.Author.Needs.{needs}
 use Rattle.styles.proofs.split.stagger.Statement.{statement}
 use Rattle.styles.proofs.split.stagger.Tie as tie
 
