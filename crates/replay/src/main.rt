@@ -1,67 +1,60 @@
-// Replays a list of the oracle's answers, from standard input, with no Rust at hand: for each function how many lines its
-// leaf agrees with, and then all lines, the ones that differ and the ones that are no lines of a list.
+// Replays the lists of the oracle's answers, from standard input, with no Rust at hand: lines of numbers (`lists`), then
+// records of the geometry, running stitch (`geolists`) and the fill (`fillists`). It writes for each function how many
+// agree and how many differ, and for each list all of them, the ones that differ and the bad ones.
+mod record;
+mod say;
+
 use libc::STDIN_FILENO;
-use libc::STDOUT_FILENO;
 
-// What is read at a time: 512 lines.
-const SOME: usize = 512 * 53;
+// A line of numbers has 53 bytes, and a space after its letter; a record begins with two words of 17 bytes.
+const LINE: usize = 53;
 
-// Reads some lines and counts them. False at the end of the input.
-fn replay_some(agreed: &mut [u64; 256], verdicts: &mut [u64; 3]) -> bool {
-    let mut text = [0u8; SOME];
-    let n = io::read_full(STDIN_FILENO, &mut text);
-    lists::count_lines(&text[..n], agreed, verdicts);
-    n == SOME
+const HEAD: usize = 34;
+
+// Reads the rest of a line and counts it.
+fn replay_line(line: &mut [u8], agreed: &mut [u64; 256], verdicts: &mut [u64; 3]) {
+    if line.len() < HEAD {
+        return;
+    }
+    io::read_full(STDIN_FILENO, &mut line[HEAD..]);
+    lists::count_lines(line, agreed, verdicts);
+}
+
+// Replays a line or a record and counts it. False at the end of the input, and where what is left can't be read.
+fn replay_one(agreed: &mut [u64; 256], verdicts: &mut [u64; 3], tally: &mut [u64; 60]) -> bool {
+    let mut text = [0u8; LINE];
+    let n = io::read_full(STDIN_FILENO, &mut text[..HEAD]);
+    if n == 0 {
+        return false;
+    }
+    if text[1] == b' ' {
+        replay_line(&mut text, agreed, verdicts);
+        return true;
+    }
+    record::replay(&text[..HEAD], tally)
 }
 
 // A proved loop has to end, and nothing says that the input does: the turns count down from a number that no run uses up.
-fn replay_all(agreed: &mut [u64; 256], verdicts: &mut [u64; 3]) {
+fn replay_all(agreed: &mut [u64; 256], verdicts: &mut [u64; 3], tally: &mut [u64; 60]) {
     let mut turns = u64::MAX;
-    while turns > 0 && replay_some(agreed, verdicts) {
+    while turns > 0 && replay_one(agreed, verdicts, tally) {
         turns -= 1;
     }
-}
-
-fn say(text: &[u8]) {
-    io::write_all(STDOUT_FILENO, text);
-}
-
-fn say_number(n: u64) {
-    io::print_decimal(STDOUT_FILENO, n);
-}
-
-// One function's line: its letter and name, and how many lines agreed.
-fn say_agreed(name: &[u8], n: u64) {
-    say(name);
-    say_number(n);
-    say(b"\n");
-}
-
-// The last line.
-fn say_verdicts(same: u64, different: u64, bad: u64) {
-    say(b"replay: ");
-    say_number(lists::plus(lists::plus(same, different), bad));
-    say(b" lines, ");
-    say_number(different);
-    say(b" different, ");
-    say_number(bad);
-    say(b" bad\n");
 }
 
 fn main() {
     let mut agreed = [0u64; 256];
     let mut verdicts = [0u64; 3];
-    replay_all(&mut agreed, &mut verdicts);
-    say_agreed(b"r root ", agreed[b'r' as usize]);
-    say_agreed(b"f floor ", agreed[b'f' as usize]);
-    say_agreed(b"c ceil ", agreed[b'c' as usize]);
-    say_agreed(b"s smaller ", agreed[b's' as usize]);
-    say_agreed(b"l larger ", agreed[b'l' as usize]);
-    say_agreed(b"m magnitude ", agreed[b'm' as usize]);
-    say_agreed(b"b before ", agreed[b'b' as usize]);
-    say_agreed(b"i to_i64 ", agreed[b'i' as usize]);
-    say_agreed(b"u to_u64 ", agreed[b'u' as usize]);
-    say_agreed(b"j of_i64 ", agreed[b'j' as usize]);
-    say_agreed(b"v of_u64 ", agreed[b'v' as usize]);
-    say_verdicts(verdicts[0], verdicts[1], verdicts[2]);
+    let mut tally = [0u64; 60];
+    replay_all(&mut agreed, &mut verdicts, &mut tally);
+    say::numbers(&agreed);
+    say::total(
+        b"replay: ",
+        b" lines, ",
+        verdicts[0],
+        verdicts[1],
+        verdicts[2],
+    );
+    say::geometry(&tally);
+    say::fills(&tally);
 }

@@ -18,13 +18,10 @@ fn settings(spacing: f64) -> Settings {
 }
 
 fn end(r: Filled) {
-    say::text(b" is ");
-    say::number(r.answer);
-    say::text(b", sections ");
-    say::number(r.sections);
-    say::text(b", points ");
-    say::number(r.points);
-    say::text(b"\n");
+    say::named(b" is ", r.answer);
+    say::named(b", sections ", r.sections);
+    say::named(b", points ", r.points);
+    say::end();
 }
 
 // Q, NonZero, stagger 1, top down.
@@ -64,36 +61,41 @@ fn nothing() -> Filled {
     )
 }
 
+// The line of a fill of Q, and its points.
+fn filled(name: &[u8], spacing: f64, points: &mut [f64], floats: &mut [f64]) {
+    say::text(name);
+    let r = square(spacing, points, floats);
+    end(r);
+    say::spots(points, r.points);
+}
+
 fn k1() {
     let mut points = [0.0; 8];
     let mut floats = [0.0; 20];
-    say::text(b"fill of Q with the exact need");
-    end(square(4.0, &mut points, &mut floats));
-    say::spot(points[0], points[1]);
-    say::spot(points[2], points[3]);
-    say::spot(points[4], points[5]);
-    say::spot(points[6], points[7]);
+    filled(
+        b"fill of Q with the exact need",
+        4.0,
+        &mut points,
+        &mut floats,
+    );
 }
 
 fn low_spacing() {
     let mut points = [0.0; 8];
     let mut floats = [0.0; 20];
-    say::text(b"fill of Q at spacing 0.49");
-    end(square(0.49, &mut points, &mut floats));
+    filled(b"fill of Q at spacing 0.49", 0.49, &mut points, &mut floats);
 }
 
 fn short_work() {
     let mut points = [0.0; 8];
     let mut floats = [0.0; 19];
-    say::text(b"fill of Q one float short");
-    end(square(4.0, &mut points, &mut floats));
+    filled(b"fill of Q one float short", 4.0, &mut points, &mut floats);
 }
 
 fn short_room() {
     let mut points = [0.0; 7];
     let mut floats = [0.0; 20];
-    say::text(b"fill of Q to 7 floats");
-    end(square(4.0, &mut points, &mut floats));
+    filled(b"fill of Q to 7 floats", 4.0, &mut points, &mut floats);
 }
 
 pub fn write() {

@@ -28,29 +28,40 @@ const MINUS_INFINITY: u64 = 0xfff0000000000000;
 
 const NAN: u64 = 0x7ff8000000000000;
 
-// The end of a leaf's line.
-fn end(l: Leaf) {
-    say::text(b" is ");
+fn refused(n: u64) {
+    say::named(b"refused: ", n);
+}
+
+fn leaf(l: Leaf) {
     match l {
         Leaf::Value(v) => say::bits(to_bits(v)),
-        Leaf::Refused(n) => say::refused(n),
+        Leaf::Refused(n) => refused(n),
     }
-    say::text(b"\n");
+}
+
+// The end of a leaf's line.
+fn end(l: Leaf) {
+    say::is();
+    leaf(l);
+    say::end();
+}
+
+// The start of a line.
+fn of(name: &[u8], x: u64) {
+    say::text(name);
+    say::text(b" of ");
+    say::bits(x);
 }
 
 // A leaf of one operand.
 fn one(name: &[u8], x: u64, l: Leaf) {
-    say::text(name);
-    say::text(b" of ");
-    say::bits(x);
+    of(name, x);
     end(l);
 }
 
 // The start of a line of two operands.
 fn both(name: &[u8], a: u64, b: u64) {
-    say::text(name);
-    say::text(b" of ");
-    say::bits(a);
+    of(name, a);
     say::text(b" and ");
     say::bits(b);
 }
@@ -81,16 +92,32 @@ fn larger(a: u64, b: u64) {
     end(checked::larger(of_bits(a), of_bits(b)));
 }
 
+fn before() {
+    say::text(b"before");
+}
+
+fn same() {
+    say::text(b"same");
+}
+
+fn after() {
+    say::text(b"after");
+}
+
+fn place(p: Place) {
+    match p {
+        Place::Before => before(),
+        Place::Same => same(),
+        Place::After => after(),
+        Place::Refused(n) => refused(n),
+    }
+}
+
 fn order(a: u64, b: u64) {
     both(b"order", a, b);
-    say::text(b" is ");
-    match checked::order(of_bits(a), of_bits(b)) {
-        Place::Before => say::text(b"before"),
-        Place::Same => say::text(b"same"),
-        Place::After => say::text(b"after"),
-        Place::Refused(n) => say::refused(n),
-    }
-    say::text(b"\n");
+    say::is();
+    place(checked::order(of_bits(a), of_bits(b)));
+    say::end();
 }
 
 // The correctly rounded root, -0 for -0, and none below zero.

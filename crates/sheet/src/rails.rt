@@ -5,11 +5,9 @@ use satin::pairs;
 use satin::s_stitch;
 
 fn end(r: Sewn) {
-    say::text(b" is ");
-    say::number(r.answer);
-    say::text(b", points ");
-    say::number(r.points);
-    say::text(b"\n");
+    say::named(b" is ", r.answer);
+    say::named(b", points ", r.points);
+    say::end();
 }
 
 // Rails (0,0)-(10,0) and (0,4)-(10,4), no sync points.
@@ -19,26 +17,32 @@ fn matched(step: f64, work: &mut [f64], out: &mut [f64]) -> Sewn {
     pairs(&a, &b, &[], step, work, out)
 }
 
+// The line of those pairs, and their points.
+fn paired(name: &[u8], step: f64, work: &mut [f64], out: &mut [f64]) {
+    say::text(name);
+    let r = matched(step, work, out);
+    end(r);
+    say::spots(out, r.points);
+}
+
 fn k10() {
     let mut work = [0.0; 32];
     let mut out = [0.0; 12];
-    say::text(b"pairs at step 5 with the exact need");
-    end(matched(5.0, &mut work, &mut out));
-    say::spot(out[0], out[1]);
-    say::spot(out[2], out[3]);
-    say::spot(out[4], out[5]);
-    say::spot(out[6], out[7]);
-    say::spot(out[8], out[9]);
-    say::spot(out[10], out[11]);
+    paired(
+        b"pairs at step 5 with the exact need",
+        5.0,
+        &mut work,
+        &mut out,
+    );
 }
 
 fn k11() {
     let line = [0.0, 0.0, 6.0, 0.0];
     let mut out = [0.0; 4];
     say::text(b"s form of length 6");
-    end(s_stitch(&line, &mut out));
-    say::spot(out[0], out[1]);
-    say::spot(out[2], out[3]);
+    let r = s_stitch(&line, &mut out);
+    end(r);
+    say::spots(&out, r.points);
 }
 
 fn no_rails() {
@@ -49,22 +53,19 @@ fn no_rails() {
 fn low_step() {
     let mut work = [0.0; 32];
     let mut out = [0.0; 12];
-    say::text(b"pairs at step 0.49");
-    end(matched(0.49, &mut work, &mut out));
+    paired(b"pairs at step 0.49", 0.49, &mut work, &mut out);
 }
 
 fn short_work() {
     let mut work = [0.0; 31];
     let mut out = [0.0; 12];
-    say::text(b"pairs one float short");
-    end(matched(5.0, &mut work, &mut out));
+    paired(b"pairs one float short", 5.0, &mut work, &mut out);
 }
 
 fn short_room() {
     let mut work = [0.0; 32];
     let mut out = [0.0; 11];
-    say::text(b"pairs to 11 floats");
-    end(matched(5.0, &mut work, &mut out));
+    paired(b"pairs to 11 floats", 5.0, &mut work, &mut out);
 }
 
 pub fn write() {

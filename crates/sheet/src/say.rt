@@ -14,15 +14,42 @@ pub fn number(n: u64) {
     io::print_decimal(STDOUT_FILENO, n);
 }
 
-pub fn refused(n: u64) {
-    text(b"refused: ");
+// A name and its number.
+pub fn named(name: &[u8], n: u64) {
+    text(name);
     number(n);
 }
 
+pub fn is() {
+    text(b" is ");
+}
+
+pub fn end() {
+    text(b"\n");
+}
+
 // A point's line.
-pub fn spot(x: f64, y: f64) {
+fn spot(x: f64, y: f64) {
     bits(to_bits(x));
     text(b" ");
     bits(to_bits(y));
-    text(b"\n");
+    end();
+}
+
+// The lines of the first n points.
+pub fn spots(l: &[f64], n: u64) {
+    let mut i: u64 = 0;
+    let mut at = 0;
+    while i < n {
+        if at >= l.len() {
+            return;
+        }
+        let next = at + 1;
+        if next >= l.len() {
+            return;
+        }
+        spot(l[at], l[next]);
+        at += 2;
+        i += 1;
+    }
 }

@@ -4,21 +4,11 @@ use Rattle.replay.proofs.replay_all.Statement.{statement}
 use Rattle.replay.proofs.replay_all.Tie as tie
 
 abbrev Inv-loop : tie.InvT-loop
-Inv-loop agreed₀ verdicts₀ turns₀ agreed verdicts turns = Unit {0}
+Inv-loop agreed₀ verdicts₀ tally₀ turns₀ agreed verdicts tally turns = Unit {0}
 
 abbrev μ-loop : tie.MeasureT-loop
-μ-loop agreed₀ verdicts₀ turns₀ agreed verdicts turns = turns
+μ-loop agreed₀ verdicts₀ tally₀ turns₀ agreed verdicts tally turns = turns
 
 pub replay-all-spec : {M : Type 1} → statement M
 replay-all-spec =
-    tie.close
-    (tie.spec
-    Inv-loop
-    μ-loop
-    (λ c. search needs)
-    (λ c κs. search needs)
-    (λ c. search needs)
-    (λ c. search needs)
-    (λ c. search needs)
-    (λ c. search needs)
-    (λ c. search needs))
+    tie.close (tie.spec Inv-loop μ-loop (λ c. search needs) (λ c κs. search needs) (λ c. search needs) (λ c. search needs) (λ c. search needs) (λ c. search needs) (λ c. search needs))
