@@ -107,7 +107,7 @@ pub fn put_steps(out: &mut [f64], k: usize, a: P, b: P, n: u64) -> usize
 }
 
 // The same, with no branch between one step and two: the first end, and the last over it or after it.
-pub fn put_piece(out: &mut [f64], k: usize, a: P, b: P, n: u64) -> usize
+fn put_piece(out: &mut [f64], k: usize, a: P, b: P, n: u64) -> usize
     requires { ⌜ k + 2 * n ≤ length (now out) ⌝ }
     ensures { λ r. ⌜ (now (out .exit) ≡ put (now (out .entry)) k (flat (stepsFrom a b n 1 n))) × (r ≡ k + 2 * n) ⌝ }
 {
