@@ -1,4 +1,5 @@
 use borrow.Author.Tests.{eq-eqb, ne-eqb}
+use borrow.Author.Needs.{needs}
 use Rattle.exports.proofs.shape.rule_of.Statement.{statement}
 use Rattle.exports.proofs.shape.rule_of.Tie as tie
 
