@@ -7,14 +7,14 @@ use native.Mathlib.Numerals.{add-one}
 use native.Mathlib.Omega.{arith}
 use lib.Dec.{eqb, leb, ltb}
 use lib.IntN.{ℤ, pos}
-use lib.ListN.{length, take, drop, getD, drop-of-length-le, length-drop}
-use lib.Seq.{drop-cons, drop-drop, take-all, length-take-le}
+use lib.ListN.{length, take, drop, getD, drop-of-length-le, length-append}
+use lib.Seq.{drop-cons, take-all, length-take-le}
 use lib.Ieee.{Float, nan, binary64, toBits}
 use mir.Syntax.{w64}
 use mir.Val.{ofZ}
 use borrow.Author.Tests.{ltb-true, ltb-false, leb-true}
 use Rattle.seqs.specs.Parts.{tail-lent}
-use Rattle.seqs.specs.Tests.{and-both, clash, refute}
+use Rattle.seqs.specs.Tests.{and-both}
 use Rattle.geolists.specs.Words.{bits, same, verdict}
 use Rattle.geolists.specs.Compared.{from}
 use Rattle.tatami.specs.declared.Filled.{Filled}
@@ -64,12 +64,6 @@ same-other [] (w ∷ ws) h = refl
 same-other (v ∷ vs) [] h = refl
 same-other (v ∷ vs) (w ∷ ws) h = ap (λ (t : Bool). eqb w v && t) (same-other vs ws (λ e. h (ap suc e))) ∙ and-false (eqb w v)
 
-pub starts-length : (a w : List ℕ) → starts a w ≡ true → length a ≤ length w
-unfolding starts
-starts-length [] w h = omega arith
-starts-length (v ∷ vs) [] h = clash h refl
-starts-length (v ∷ vs) (w ∷ ws) h = omega (arith, starts-length vs ws (and-both (eqb w v) (starts vs ws) h .1))
-
 -- ---- lists in parts
 same-append : (a b w : List ℕ) → same (a ++ b) w ≡ (starts a w && same b (drop (length a) w))
 unfolding same starts
@@ -77,16 +71,16 @@ same-append [] b w = refl
 same-append (v ∷ vs) b [] = refl
 same-append (v ∷ vs) b (w ∷ ws) = ap (λ (t : Bool). eqb w v && t) (same-append vs b ws) ∙ sym (and-assoc (eqb w v) (starts vs ws) (same b (drop (length vs) ws)))
 
--- the part a of k words from place j, and then b
-pub same-parts : (a b w : List ℕ) (j k : ℕ) → length a ≡ k → same (a ++ b) (drop j w) ≡ (starts a (from j w) && same b (drop (j + k) w))
-same-parts a b w j k e = same-append a b (drop j w) ∙ rw (e, drop-drop k j w, tail-lent w w j)
-
 pub from-is : (w : List ℕ) (j : ℕ) → from j w ≡ drop j w
 from-is w j = tail-lent w w j
 
--- a list that is too short for the part a
-starts-short : (a w : List ℕ) (j k : ℕ) → length a ≡ k → length w - j < k → starts a (from j w) ≡ false
-starts-short a w j k e h = refute (starts a (from j w)) (λ t. absurd (omega (arith, starts-length a (from j w) t, ap length (from-is w j), length-drop j w)))
+-- the part a of k words, and then b
+same-parts : (a b w : List ℕ) (k : ℕ) → length a ≡ k → same (a ++ b) w ≡ (starts a w && same b (from k w))
+same-parts a b w k e = same-append a b w ∙ rw (e, from-is w k)
+
+-- words that are too few for the part a
+same-short : (a b w : List ℕ) (k : ℕ) → length a ≡ k → length w < k → same (a ++ b) w ≡ false
+same-short a b w k e h = same-other (a ++ b) w (λ q. omega (arith, e, h, length-append a b, q))
 
 -- ---- no more than there is
 module _ {A : Type 0} (l : List A) (n : ℕ) where
@@ -114,6 +108,34 @@ unfolding signed
 signed-length [] = refl
 signed-length (x ∷ l) = ap suc (signed-length l)
 
+-- ---- k floats, and then b
+module _ (l : List Float) (b w : List ℕ) (k : ℕ) (h : k ≤ length l) where
+  floats-count : length (bits (take k l)) ≡ k
+  floats-count = bits-length (take k l) ∙ length-take-le k l h
+
+  pub floats-parts : same (bits (take k l) ++ b) w ≡ (starts (bits (take k l)) w && same b (from k w))
+  floats-parts = same-parts (bits (take k l)) b w k floats-count
+
+  pub floats-few : length w < k → same (bits (take k l) ++ b) w ≡ false
+  floats-few q = same-short (bits (take k l)) b w k floats-count q
+
+-- ---- n row numbers, or all of them, and then b
+module _ (l : List ℤ) (b w : List ℕ) (n : ℕ) {k : ℕ} (e : k ≡ atMost (length l) n) where
+  pub rows-in : k ≤ length l
+  rows-in = omega (arith, e, at-most-le l n)
+
+  rows-count : length (signed (take k l)) ≡ k
+  rows-count = signed-length (take k l) ∙ length-take-le k l rows-in
+
+  rows-taken : same (signed (take n l) ++ b) w ≡ same (signed (take k l) ++ b) w
+  rows-taken = ap (λ r. same (signed r ++ b) w) (sym (take-at-most l n) ∙ ap (λ k. take k l) (sym e))
+
+  pub rows-parts : same (signed (take n l) ++ b) w ≡ (starts (signed (take k l)) w && same b (from k w))
+  rows-parts = rows-taken ∙ same-parts (signed (take k l)) b w k rows-count
+
+  pub rows-few : length w < k → same (signed (take n l) ++ b) w ≡ false
+  rows-few q = rows-taken ∙ same-short (signed (take k l)) b w k rows-count q
+
 -- ---- tatami's words: the first three, the points, the section ends
 module _ (s : Filled) (points : List Float) (stops want : List ℕ) where
   pub filled-less : length want < 3 → 1 ≡ verdict (filledWords s points stops) want
@@ -132,27 +154,12 @@ module _ (s : Filled) (points : List Float) (stops want : List ℕ) where
       go (a ∷ b ∷ []) h = absurd (omega arith)
       go (a ∷ b ∷ c ∷ w) h = refl
 
-  module _ {k : ℕ} (e : k ≡ atMost (length points) (2 * s .points)) where
-    pub points-in : k ≤ length points
-    points-in = omega (arith, e, at-most-le points (2 * s .points))
-
-    pub filled-parts : same (bits (take (2 * s .points) points) ++ take (s .sections) stops) (drop 3 want) ≡ (starts (bits (take k points)) (from 3 want) && same (take (s .sections) stops) (drop (3 + k) want))
-    filled-parts =
-        ap (λ l. same (bits l ++ take (s .sections) stops) (drop 3 want)) (sym (take-at-most points (2 * s .points)) ∙ ap (λ k. take k points) (sym e))
-        ∙ same-parts (bits (take k points)) (take (s .sections) stops) want 3 k (bits-length (take k points) ∙ length-take-le k points points-in)
-
-    pub points-short : length want - 3 < k → starts (bits (take k points)) (from 3 want) ≡ false
-    points-short h = starts-short (bits (take k points)) want 3 k (bits-length (take k points) ∙ length-take-le k points points-in) h
-
-  -- n section ends, or all of them
-  pub stops-parts : (k : ℕ) {n : ℕ} → n ≡ atMost (length stops) (s .sections) → same (take (s .sections) stops) (drop (3 + k) want) ≡ same (take n stops) (from (3 + k) want)
-  stops-parts k {n} e = rw (from-is want (3 + k), e, take-at-most stops (s .sections))
+  -- the points as they are compared
+  pub points-owed : {k : ℕ} → k ≡ atMost (length points) (2 * s .points) → same (bits (take (2 * s .points) points) ++ take (s .sections) stops) (drop 3 want) ≡ same (bits (take k points) ++ take (s .sections) stops) (from 3 want)
+  points-owed {k} e = rw (from-is want 3, e, take-at-most points (2 * s .points))
 
 -- ---- the row list's: the first two, the floats, the row numbers, the section numbers
 module _ (s : Listed) (ys : List Float) (rows : List ℤ) (sections want : List ℕ) where
-  abbrev later : List ℕ
-  later = signed (take (s .pieces) rows) ++ take (s .pieces) sections
-
   pub listed-less : length want < 2 → 1 ≡ verdict (listedWords s ys rows sections) want
   unfolding verdict listedWords
   listed-less h = rw (same-other (listedWords s ys rows sections) want (λ e. omega (arith, h, e)))
@@ -168,33 +175,9 @@ module _ (s : Listed) (ys : List Float) (rows : List ℤ) (sections want : List 
       go (a ∷ []) h = absurd (omega arith)
       go (a ∷ b ∷ w) h = refl
 
-  module _ {k : ℕ} (e : k ≡ atMost (length ys) (3 * s .pieces)) where
-    pub ys-in : k ≤ length ys
-    ys-in = omega (arith, e, at-most-le ys (3 * s .pieces))
-
-    pub ys-parts : same (bits (take (3 * s .pieces) ys) ++ (signed (take (s .pieces) rows) ++ take (s .pieces) sections)) (drop 2 want) ≡ (starts (bits (take k ys)) (from 2 want) && same (signed (take (s .pieces) rows) ++ take (s .pieces) sections) (drop (2 + k) want))
-    ys-parts =
-        ap (λ l. same (bits l ++ later) (drop 2 want)) (sym (take-at-most ys (3 * s .pieces)) ∙ ap (λ k. take k ys) (sym e))
-        ∙ same-parts (bits (take k ys)) later want 2 k (bits-length (take k ys) ∙ length-take-le k ys ys-in)
-
-    pub ys-short : length want - 2 < k → starts (bits (take k ys)) (from 2 want) ≡ false
-    ys-short h = starts-short (bits (take k ys)) want 2 k (bits-length (take k ys) ∙ length-take-le k ys ys-in) h
-
-  module _ (j : ℕ) {m : ℕ} (e : m ≡ atMost (length rows) (s .pieces)) where
-    pub rows-in : m ≤ length rows
-    rows-in = omega (arith, e, at-most-le rows (s .pieces))
-
-    pub rows-parts : same (signed (take (s .pieces) rows) ++ take (s .pieces) sections) (drop j want) ≡ (starts (signed (take m rows)) (from j want) && same (take (s .pieces) sections) (drop (j + m) want))
-    rows-parts =
-        ap (λ l. same (signed l ++ take (s .pieces) sections) (drop j want)) (sym (take-at-most rows (s .pieces)) ∙ ap (λ k. take k rows) (sym e))
-        ∙ same-parts (signed (take m rows)) (take (s .pieces) sections) want j m (signed-length (take m rows) ∙ length-take-le m rows rows-in)
-
-    pub no-rows : length want - j < m → starts (signed (take m rows)) (from j want) ≡ false
-    no-rows h = starts-short (signed (take m rows)) want j m (signed-length (take m rows) ∙ length-take-le m rows rows-in) h
-
-  -- n section numbers, or all of them
-  pub sections-parts : (j : ℕ) {n : ℕ} → n ≡ atMost (length sections) (s .pieces) → same (take (s .pieces) sections) (drop j want) ≡ same (take n sections) (from j want)
-  sections-parts j {n} e = rw (from-is want j, e, take-at-most sections (s .pieces))
+  -- the floats as they are compared
+  pub ys-owed : {k : ℕ} → k ≡ atMost (length ys) (3 * s .pieces) → same (bits (take (3 * s .pieces) ys) ++ (signed (take (s .pieces) rows) ++ take (s .pieces) sections)) (drop 2 want) ≡ same (bits (take k ys) ++ (signed (take (s .pieces) rows) ++ take (s .pieces) sections)) (from 2 want)
+  ys-owed {k} e = rw (from-is want 2, e, take-at-most ys (3 * s .pieces))
 
 -- ---- what is lent
 pub fits-all : (a b c d : ℕ) → fits a b c d ≡ true → (a ≤ 128) × (b ≤ 128) × (c ≤ 128) × (d ≤ 128)

@@ -1,8 +1,9 @@
 // Function 15.
 ghost use mathlib.Core.Path.{_≡_};
+ghost use mathlib.Core.List.{_++_};
 ghost use Prim.Native.Nat.{_≤_};
-ghost use lib.ListN.{length};
-ghost use Rattle.geolists.specs.Words.{verdict};
+ghost use lib.ListN.{length, take};
+ghost use Rattle.geolists.specs.Words.{bits, same, verdict};
 ghost use Rattle.fillists.specs.Owed.{filledWords};
 ghost use Rattle.fillists.specs.Judged.{tatamiWords, tatamiAsked, tatamiJudged};
 use crate::given::ROOM;
@@ -10,11 +11,24 @@ use crate::given::ends_at;
 use crate::given::fits_four;
 use crate::given::rule_of;
 use crate::given::settings_of;
-use crate::starts::once;
-use crate::starts::same_words;
+use crate::starts::owes_words;
 use crate::starts::starts_floats;
 use crate::starts::twice;
 use tatami::Filled;
+
+// Whether they are k floats of the points and then n section ends.
+fn owes(points: &[f64], k: usize, stops: &[usize], n: u64, want: &[usize]) -> bool
+    requires { ⌜ k ≤ length (now points) ⌝ }
+    ensures { λ r. ⌜ r ≡ same (bits (take k (now (points .entry))) ++ take n (now (stops .entry))) (now (want .entry)) ⌝ }
+{
+    if k > want.len() {
+        return false;
+    }
+    if !starts_floats(&points[..k], want) {
+        return false;
+    }
+    owes_words(stops, n, &want[k..])
+}
 
 // 0 where a call left the wanted number, counts, points and section ends, 1 where it left others.
 fn compare(s: Filled, points: &[f64], stops: &[usize], want: &[usize]) -> u64
@@ -33,15 +47,7 @@ fn compare(s: Filled, points: &[f64], stops: &[usize], want: &[usize]) -> u64
         return 1;
     }
     let k = twice(s.points, points.len());
-    if k > want.len() - 3 {
-        return 1;
-    }
-    if !starts_floats(&points[..k], &want[3..]) {
-        return 1;
-    }
-    let n = once(s.sections, stops.len());
-    let at = 3 + k;
-    if same_words(&stops[..n], &want[at..]) {
+    if owes(points, k, stops, s.sections, &want[3..]) {
         return 0;
     }
     1

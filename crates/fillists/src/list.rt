@@ -1,21 +1,34 @@
 // Function 16.
 ghost use mathlib.Core.Path.{_≡_};
+ghost use mathlib.Core.List.{_++_};
 ghost use Prim.Native.Nat.{_≤_};
-ghost use lib.ListN.{length};
-ghost use Rattle.geolists.specs.Words.{verdict};
-ghost use Rattle.fillists.specs.Owed.{listedWords};
+ghost use lib.ListN.{length, take};
+ghost use Rattle.geolists.specs.Words.{bits, same, verdict};
+ghost use Rattle.fillists.specs.Owed.{signed, listedWords};
 ghost use Rattle.fillists.specs.Judged.{rowListWords, rowListAsked, rowListJudged};
 use crate::given::ROOM;
 use crate::given::ends_at;
 use crate::given::fits_four;
 use crate::given::rule_of;
 use crate::given::settings_of;
-use crate::starts::once;
-use crate::starts::same_words;
+use crate::starts::owes_rows;
 use crate::starts::starts_floats;
-use crate::starts::starts_rows;
 use crate::starts::thrice;
 use tatami::Listed;
+
+// Whether they are k floats, and then n row numbers and section numbers.
+fn owes(ys: &[f64], k: usize, rows: &[i64], sections: &[usize], n: u64, want: &[usize]) -> bool
+    requires { ⌜ k ≤ length (now ys) ⌝ }
+    ensures { λ r. ⌜ r ≡ same (bits (take k (now (ys .entry))) ++ (signed (take n (now (rows .entry))) ++ take n (now (sections .entry)))) (now (want .entry)) ⌝ }
+{
+    if k > want.len() {
+        return false;
+    }
+    if !starts_floats(&ys[..k], want) {
+        return false;
+    }
+    owes_rows(rows, sections, n, &want[k..])
+}
 
 // 0 where a call left the wanted number, count, floats, row numbers and section numbers, 1 where it left others.
 fn compare(s: Listed, ys: &[f64], rows: &[i64], sections: &[usize], want: &[usize]) -> u64
@@ -31,23 +44,7 @@ fn compare(s: Listed, ys: &[f64], rows: &[i64], sections: &[usize], want: &[usiz
         return 1;
     }
     let k = thrice(s.pieces, ys.len());
-    if k > want.len() - 2 {
-        return 1;
-    }
-    if !starts_floats(&ys[..k], &want[2..]) {
-        return 1;
-    }
-    let m = once(s.pieces, rows.len());
-    let from = 2 + k;
-    if m > want.len() - from {
-        return 1;
-    }
-    if !starts_rows(&rows[..m], &want[from..]) {
-        return 1;
-    }
-    let n = once(s.pieces, sections.len());
-    let at = from + m;
-    if same_words(&sections[..n], &want[at..]) {
+    if owes(ys, k, rows, sections, s.pieces, &want[2..]) {
         return 0;
     }
     1

@@ -1,6 +1,8 @@
 // Outputs compared with the words that they owe.
 ghost use mathlib.Core.Path.{_≡_};
-ghost use Prim.Native.Nat.{_*_};
+ghost use mathlib.Core.List.{_++_};
+ghost use Prim.Native.Nat.{_*_, _≤_};
+ghost use lib.ListN.{length, take};
 ghost use Rattle.geolists.specs.Words.{bits, same};
 ghost use Rattle.fillists.specs.Owed.{starts, signed, atMost};
 use leaves::to_bits;
@@ -85,4 +87,26 @@ pub fn thrice(n: u64, len: usize) -> usize
         return len;
     }
     3 * n as usize
+}
+
+// Whether the words are the first n of some whole numbers, or all of them, and no more.
+pub fn owes_words(l: &[usize], n: u64, want: &[usize]) -> bool
+    ensures { λ r. ⌜ r ≡ same (take n (now (l .entry))) (now (want .entry)) ⌝ }
+{
+    let k = once(n, l.len());
+    same_words(&l[..k], want)
+}
+
+// Whether they are n row numbers and then n section numbers.
+pub fn owes_rows(rows: &[i64], sections: &[usize], n: u64, want: &[usize]) -> bool
+    ensures { λ r. ⌜ r ≡ same (signed (take n (now (rows .entry))) ++ take n (now (sections .entry))) (now (want .entry)) ⌝ }
+{
+    let k = once(n, rows.len());
+    if k > want.len() {
+        return false;
+    }
+    if !starts_rows(&rows[..k], want) {
+        return false;
+    }
+    owes_words(sections, n, &want[k..])
 }

@@ -1,8 +1,13 @@
-use mathlib.Core.Path.{sym, _∙_}
+use mathlib.Core.Path.{_≡_, sym, _∙_}
+use mathlib.Core.Bool.{true, false}
+use mathlib.Core.List.{_++_}
+use Prim.Native.Nat.{_*_}
 use native.Mathlib.Omega.{arith}
-use lib.Seq.{length-take-le}
-use borrow.Author.Tests.{eq-eqb, ne-eqb, not-true, not-false}
-use Rattle.fillists.proofs.Laws.{at-most-le, filled-less, filled-head, filled-parts, points-in, points-short, stops-parts}
+use lib.ListN.{take}
+use borrow.Author.Tests.{eq-eqb, ne-eqb}
+use Rattle.geolists.specs.Words.{bits, same}
+use Rattle.geolists.specs.Compared.{from}
+use Rattle.fillists.proofs.Laws.{at-most-le, filled-less, filled-head, points-owed}
 use borrow.Author.Needs.{needs}
 use Rattle.fillists.proofs.fill.compare.Statement.{statement}
 use Rattle.fillists.proofs.fill.compare.Tie as tie
@@ -19,24 +24,21 @@ returns-3 c = rw (filled-head (c .before .before .before .before .before .before
 returns-4 : tie.Need-returns-4
 returns-4 c = rw (filled-head (c .before .before .before .before .before .before .before .before .before .before .before .before .before .args .s) (c .before .before .before .before .before .before .before .before .before .before .before .before .before .args .points .now) (c .before .before .before .before .before .before .before .before .before .before .before .before .before .args .stops .now) (c .before .before .before .before .before .before .before .before .before .before .before .before .before .args .want .now) (c .before .before .before .before .before .before .before .before .before .if1 .left), eq-eqb _ _ (c .before .before .before .before .before .before .if2 .left), eq-eqb _ _ (c .before .before .before .if3 .left), ne-eqb _ _ (c .if4 .taken))
 
-returns-5 : tie.Need-returns-5
-returns-5 c = rw (filled-head (c .before .before .before .before .before .before .before .before .before .before .before .before .before .before .before .args .s) (c .before .before .before .before .before .before .before .before .before .before .before .before .before .before .before .args .points .now) (c .before .before .before .before .before .before .before .before .before .before .before .before .before .before .before .args .stops .now) (c .before .before .before .before .before .before .before .before .before .before .before .before .before .before .before .args .want .now) (c .before .before .before .before .before .before .before .before .before .before .before .if1 .left), eq-eqb _ _ (c .before .before .before .before .before .before .before .before .if2 .left), eq-eqb _ _ (c .before .before .before .before .before .if3 .left), eq-eqb _ _ (c .before .before .if4 .left), filled-parts (c .before .before .before .before .before .before .before .before .before .before .before .before .before .before .before .args .s) (c .before .before .before .before .before .before .before .before .before .before .before .before .before .before .before .args .points .now) (c .before .before .before .before .before .before .before .before .before .before .before .before .before .before .before .args .stops .now) (c .before .before .before .before .before .before .before .before .before .before .before .before .before .before .before .args .want .now) (c .before .twice .ensures), points-short (c .before .before .before .before .before .before .before .before .before .before .before .before .before .before .before .args .s) (c .before .before .before .before .before .before .before .before .before .before .before .before .before .before .before .args .points .now) (c .before .before .before .before .before .before .before .before .before .before .before .before .before .before .before .args .stops .now) (c .before .before .before .before .before .before .before .before .before .before .before .before .before .before .before .args .want .now) (c .before .twice .ensures) (c .if5 .taken))
+owes-requires : tie.Need-owes-requires
+owes-requires c κs = omega (arith, c .before .twice .ensures, at-most-le (c .before .before .before .before .before .before .before .before .before .before .before .before .before .before .before .args .points .now) (2 * c .before .before .before .before .before .before .before .before .before .before .before .before .before .before .before .args .s .points))
 
-slice-aggregate-starts-floats : tie.Need-slice-aggregate-starts-floats
-slice-aggregate-starts-floats c = sym (length-take-le _ _ (points-in (c .before .before .before .before .before .before .before .before .before .before .before .before .before .before .before .before .args .s) (c .before .before .before .before .before .before .before .before .before .before .before .before .before .before .before .before .args .points .now) (c .before .before .before .before .before .before .before .before .before .before .before .before .before .before .before .before .args .stops .now) (c .before .before .before .before .before .before .before .before .before .before .before .before .before .before .before .before .args .want .now) (c .before .before .twice .ensures)))
+returns-5 : tie.Need-returns-5
+returns-5 c =
+    let a = c .before .before .before .before .before .before .before .before .before .before .before .before .before .before .before .before .before .args in
+    let owed : same (bits (take (c .before .before .before .twice .result) (a .points .now)) ++ take (a .s .sections) (a .stops .now)) (from 3 (a .want .now)) ≡ true = sym (c .before .owes .ensures) ∙ c .if5 .taken in
+    rw (filled-head (a .s) (a .points .now) (a .stops .now) (a .want .now) (c .before .before .before .before .before .before .before .before .before .before .before .before .before .if1 .left), eq-eqb _ _ (c .before .before .before .before .before .before .before .before .before .before .if2 .left), eq-eqb _ _ (c .before .before .before .before .before .before .before .if3 .left), eq-eqb _ _ (c .before .before .before .before .if4 .left), points-owed (a .s) (a .points .now) (a .stops .now) (a .want .now) (c .before .before .before .twice .ensures), owed)
 
 returns-6 : tie.Need-returns-6
-returns-6 c = rw (filled-head (c .before .before .before .before .before .before .before .before .before .before .before .before .before .before .before .before .before .before .before .args .s) (c .before .before .before .before .before .before .before .before .before .before .before .before .before .before .before .before .before .before .before .args .points .now) (c .before .before .before .before .before .before .before .before .before .before .before .before .before .before .before .before .before .before .before .args .stops .now) (c .before .before .before .before .before .before .before .before .before .before .before .before .before .before .before .before .before .before .before .args .want .now) (c .before .before .before .before .before .before .before .before .before .before .before .before .before .before .before .if1 .left), eq-eqb _ _ (c .before .before .before .before .before .before .before .before .before .before .before .before .if2 .left), eq-eqb _ _ (c .before .before .before .before .before .before .before .before .before .if3 .left), eq-eqb _ _ (c .before .before .before .before .before .before .if4 .left), filled-parts (c .before .before .before .before .before .before .before .before .before .before .before .before .before .before .before .before .before .before .before .args .s) (c .before .before .before .before .before .before .before .before .before .before .before .before .before .before .before .before .before .before .before .args .points .now) (c .before .before .before .before .before .before .before .before .before .before .before .before .before .before .before .before .before .before .before .args .stops .now) (c .before .before .before .before .before .before .before .before .before .before .before .before .before .before .before .before .before .before .before .args .want .now) (c .before .before .before .before .before .twice .ensures), sym (c .before .starts-floats .ensures) ∙ not-true _ (c .if6 .taken))
-
-slice-aggregate-same-words : tie.Need-slice-aggregate-same-words
-slice-aggregate-same-words c = sym (length-take-le _ _ (omega (arith, c .before .once .ensures, at-most-le (c .before .before .before .before .before .before .before .before .before .before .before .before .before .before .before .before .before .before .before .before .before .args .stops .now) (c .before .before .before .before .before .before .before .before .before .before .before .before .before .before .before .before .before .before .before .before .before .args .s .sections))))
-
-returns-7 : tie.Need-returns-7
-returns-7 c = rw (filled-head (c .before .before .before .before .before .before .before .before .before .before .before .before .before .before .before .before .before .before .before .before .before .before .before .before .args .s) (c .before .before .before .before .before .before .before .before .before .before .before .before .before .before .before .before .before .before .before .before .before .before .before .before .args .points .now) (c .before .before .before .before .before .before .before .before .before .before .before .before .before .before .before .before .before .before .before .before .before .before .before .before .args .stops .now) (c .before .before .before .before .before .before .before .before .before .before .before .before .before .before .before .before .before .before .before .before .before .before .before .before .args .want .now) (c .before .before .before .before .before .before .before .before .before .before .before .before .before .before .before .before .before .before .before .before .if1 .left), eq-eqb _ _ (c .before .before .before .before .before .before .before .before .before .before .before .before .before .before .before .before .before .if2 .left), eq-eqb _ _ (c .before .before .before .before .before .before .before .before .before .before .before .before .before .before .if3 .left), eq-eqb _ _ (c .before .before .before .before .before .before .before .before .before .before .before .if4 .left), filled-parts (c .before .before .before .before .before .before .before .before .before .before .before .before .before .before .before .before .before .before .before .before .before .before .before .before .args .s) (c .before .before .before .before .before .before .before .before .before .before .before .before .before .before .before .before .before .before .before .before .before .before .before .before .args .points .now) (c .before .before .before .before .before .before .before .before .before .before .before .before .before .before .before .before .before .before .before .before .before .before .before .before .args .stops .now) (c .before .before .before .before .before .before .before .before .before .before .before .before .before .before .before .before .before .before .before .before .before .before .before .before .args .want .now) (c .before .before .before .before .before .before .before .before .before .before .twice .ensures), sym (c .before .before .before .before .before .before .starts-floats .ensures) ∙ not-false _ (c .before .before .before .before .before .if6 .left), stops-parts (c .before .before .before .before .before .before .before .before .before .before .before .before .before .before .before .before .before .before .before .before .before .before .before .before .args .s) (c .before .before .before .before .before .before .before .before .before .before .before .before .before .before .before .before .before .before .before .before .before .before .before .before .args .points .now) (c .before .before .before .before .before .before .before .before .before .before .before .before .before .before .before .before .before .before .before .before .before .before .before .before .args .stops .now) (c .before .before .before .before .before .before .before .before .before .before .before .before .before .before .before .before .before .before .before .before .before .before .before .before .args .want .now) _ (c .before .before .before .before .once .ensures), sym (c .before .same-words .ensures) ∙ c .if7 .taken)
-
-returns-8 : tie.Need-returns-8
-returns-8 c = rw (filled-head (c .before .before .before .before .before .before .before .before .before .before .before .before .before .before .before .before .before .before .before .before .before .before .before .before .args .s) (c .before .before .before .before .before .before .before .before .before .before .before .before .before .before .before .before .before .before .before .before .before .before .before .before .args .points .now) (c .before .before .before .before .before .before .before .before .before .before .before .before .before .before .before .before .before .before .before .before .before .before .before .before .args .stops .now) (c .before .before .before .before .before .before .before .before .before .before .before .before .before .before .before .before .before .before .before .before .before .before .before .before .args .want .now) (c .before .before .before .before .before .before .before .before .before .before .before .before .before .before .before .before .before .before .before .before .if1 .left), eq-eqb _ _ (c .before .before .before .before .before .before .before .before .before .before .before .before .before .before .before .before .before .if2 .left), eq-eqb _ _ (c .before .before .before .before .before .before .before .before .before .before .before .before .before .before .if3 .left), eq-eqb _ _ (c .before .before .before .before .before .before .before .before .before .before .before .if4 .left), filled-parts (c .before .before .before .before .before .before .before .before .before .before .before .before .before .before .before .before .before .before .before .before .before .before .before .before .args .s) (c .before .before .before .before .before .before .before .before .before .before .before .before .before .before .before .before .before .before .before .before .before .before .before .before .args .points .now) (c .before .before .before .before .before .before .before .before .before .before .before .before .before .before .before .before .before .before .before .before .before .before .before .before .args .stops .now) (c .before .before .before .before .before .before .before .before .before .before .before .before .before .before .before .before .before .before .before .before .before .before .before .before .args .want .now) (c .before .before .before .before .before .before .before .before .before .before .twice .ensures), sym (c .before .before .before .before .before .before .starts-floats .ensures) ∙ not-false _ (c .before .before .before .before .before .if6 .left), stops-parts (c .before .before .before .before .before .before .before .before .before .before .before .before .before .before .before .before .before .before .before .before .before .before .before .before .args .s) (c .before .before .before .before .before .before .before .before .before .before .before .before .before .before .before .before .before .before .before .before .before .before .before .before .args .points .now) (c .before .before .before .before .before .before .before .before .before .before .before .before .before .before .before .before .before .before .before .before .before .before .before .before .args .stops .now) (c .before .before .before .before .before .before .before .before .before .before .before .before .before .before .before .before .before .before .before .before .before .before .before .before .args .want .now) _ (c .before .before .before .before .once .ensures), sym (c .before .same-words .ensures) ∙ c .if7 .left)
+returns-6 c =
+    let a = c .before .before .before .before .before .before .before .before .before .before .before .before .before .before .before .before .before .args in
+    let owed : same (bits (take (c .before .before .before .twice .result) (a .points .now)) ++ take (a .s .sections) (a .stops .now)) (from 3 (a .want .now)) ≡ false = sym (c .before .owes .ensures) ∙ c .if5 .left in
+    rw (filled-head (a .s) (a .points .now) (a .stops .now) (a .want .now) (c .before .before .before .before .before .before .before .before .before .before .before .before .before .if1 .left), eq-eqb _ _ (c .before .before .before .before .before .before .before .before .before .before .if2 .left), eq-eqb _ _ (c .before .before .before .before .before .before .before .if3 .left), eq-eqb _ _ (c .before .before .before .before .if4 .left), points-owed (a .s) (a .points .now) (a .stops .now) (a .want .now) (c .before .before .before .twice .ensures), owed)
 
 pub compare-spec : {M : Type 1} → statement M
 compare-spec =
-    tie.close (tie.spec returns (λ c. search needs) returns-2 (λ c. search needs) returns-3 (λ c. search needs) returns-4 (λ c κs. search needs) (λ c. search needs) returns-5 slice-aggregate-starts-floats (λ c. search needs) (λ c. search needs) (λ c. search needs) (λ c κs. search needs) returns-6 (λ c κs. search needs) (λ c. search needs) slice-aggregate-same-words (λ c. search needs) (λ c. search needs) (λ c. search needs) (λ c. search needs) (λ c κs. search needs) returns-7 returns-8)
+    tie.close (tie.spec returns (λ c. search needs) returns-2 (λ c. search needs) returns-3 (λ c. search needs) returns-4 (λ c κs. search needs) (λ c. search needs) (λ c. search needs) (λ c. search needs) owes-requires returns-5 returns-6)
