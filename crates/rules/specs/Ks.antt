@@ -47,6 +47,11 @@ pub k1 : tatami Q NonZero (set 10 zero64) 1 false ≡ (pt 0 2 ∷ pt 10 2 ∷ pt
 unfolding add sub mul div neg lt le eq ofInt round toSigned toUnsigned odd isNan literal negative before smaller larger magnitude wholeOf floor ceil isqrt nearRoot rootUnits root len dist lerp along Rattle.outlines.specs.Winding.edge Rattle.outlines.specs.Winding.edges ring winding inside pointInside sidesTo sides edgeOf keptSide turned edges howMany through ymin ymax kLo kHi rowNumbers rowAt starts lives crossX byX crossed dir crossing spans shrink pieceOf minRow wide piecesAt piecesOf overlap linkEnds linkInside connects joined joins rowEntries begun entries met rowList section sections cycle remEuclid offset minEnd m0 m1 needles rowPoints parts between sewFrom sew sewn tatami
 k1 = refl
 
+-- K1 with no row at the outline's top
+pub k1-lower : tatami ((pt 0 0 ∷ pt 10 0 ∷ pt 10 9 ∷ pt 0 9 ∷ []) ∷ []) NonZero (set 10 zero64) 1 false ≡ (pt 0 2 ∷ pt 10 2 ∷ pt 10 6 ∷ pt 0 6 ∷ []) ∷ []
+unfolding add sub mul div neg lt le eq ofInt round toSigned toUnsigned odd isNan literal negative before smaller larger magnitude wholeOf floor ceil isqrt nearRoot rootUnits root len dist lerp along Rattle.outlines.specs.Winding.edge Rattle.outlines.specs.Winding.edges ring winding inside pointInside sidesTo sides edgeOf keptSide turned edges howMany through ymin ymax kLo kHi rowNumbers rowAt starts lives crossX byX crossed dir crossing spans shrink pieceOf minRow wide piecesAt piecesOf overlap linkEnds linkInside connects joined joins rowEntries begun entries met rowList section sections cycle remEuclid offset minEnd m0 m1 needles rowPoints parts between sewFrom sew sewn tatami
+k1-lower = refl
+
 pub k2 : tatami Q NonZero (set 10 zero64) 1 true ≡ (pt 0 6 ∷ pt 10 6 ∷ pt 10 2 ∷ pt 0 2 ∷ []) ∷ []
 unfolding add sub mul div neg lt le eq ofInt round toSigned toUnsigned odd isNan literal negative before smaller larger magnitude wholeOf floor ceil isqrt nearRoot rootUnits root len dist lerp along Rattle.outlines.specs.Winding.edge Rattle.outlines.specs.Winding.edges ring winding inside pointInside sidesTo sides edgeOf keptSide turned edges howMany through ymin ymax kLo kHi rowNumbers rowAt starts lives crossX byX crossed dir crossing spans shrink pieceOf minRow wide piecesAt piecesOf overlap linkEnds linkInside connects joined joins rowEntries begun entries met rowList section sections cycle remEuclid offset minEnd m0 m1 needles rowPoints parts between sewFrom sew sewn tatami
 k2 = refl
@@ -90,6 +95,11 @@ k1-room = refl
 pub k1-setting : tatamiAnswer corners (4 ∷ []) NonZero (record { spacing = literal 49 100; len = n 10; inset = n 0; pull = n 0; cosine = n 1; sine = n 0 }) 1 false 20 20 8 1 ≡ SETTING
 unfolding add sub mul div neg lt le eq ofInt round toSigned toUnsigned odd isNan literal negative before smaller larger magnitude wholeOf floor ceil isqrt nearRoot rootUnits root len dist lerp along Rattle.outlines.specs.Winding.edge Rattle.outlines.specs.Winding.edges ring winding inside pointInside sidesTo sides edgeOf keptSide turned edges howMany through ymin ymax kLo kHi rowNumbers rowAt starts lives crossX byX crossed dir crossing spans shrink pieceOf minRow wide piecesAt piecesOf overlap linkEnds linkInside connects joined joins rowEntries begun entries met rowList section sections cycle remEuclid offset minEnd m0 m1 needles rowPoints parts between sewFrom sew sewn tatami points cut rings rising largest within goodNumber goodNumbers goodSpacing goodLen goodInset goodTurn goodOutline goodSettings gate roomed refusal sewnPoints tatamiAnswer finite
 k1-setting = refl
+
+-- a turn that is wrong too: the settings come first
+pub setting-first : tatamiAnswer corners (4 ∷ []) NonZero (record { spacing = literal 49 100; len = n 10; inset = n 0; pull = n 0; cosine = n 1; sine = n 1 }) 1 false 20 20 8 1 ≡ SETTING
+unfolding add sub mul div neg lt le eq ofInt round toSigned toUnsigned odd isNan literal negative before smaller larger magnitude wholeOf floor ceil isqrt nearRoot rootUnits root len dist lerp along Rattle.outlines.specs.Winding.edge Rattle.outlines.specs.Winding.edges ring winding inside pointInside sidesTo sides edgeOf keptSide turned edges howMany through ymin ymax kLo kHi rowNumbers rowAt starts lives crossX byX crossed dir crossing spans shrink pieceOf minRow wide piecesAt piecesOf overlap linkEnds linkInside connects joined joins rowEntries begun entries met rowList section sections cycle remEuclid offset minEnd m0 m1 needles rowPoints parts between sewFrom sew sewn tatami points cut rings rising largest within goodNumber goodNumbers goodSpacing goodLen goodInset goodTurn goodOutline goodSettings gate roomed refusal sewnPoints tatamiAnswer finite
+setting-first = refl
 
 -- no rings
 pub none-done : tatamiAnswer [] [] NonZero (set 10 zero64) 1 false 0 0 0 0 ≡ DONE
