@@ -1,6 +1,5 @@
 -- Parts of a list at the code's indices, and what stays of a part. Assumes nothing.
 use mathlib.Core.Path.{_≡_, refl, sym, ap, _∙_}
-use mathlib.Core.Logic.{_⊎_, inl, inr}
 use mathlib.Core.List.{List, [], _∷_, _++_, append-nil}
 use Prim.Native.Nat.{ℕ, zero, suc, _+_, _-_, _≤_, _<_}
 use native.Mathlib.Numerals.{add-one}
@@ -17,14 +16,9 @@ pub fuel-none : (n i : ℕ) → n ≤ i → n - i ≡ 0
 fuel-none n i h = omega arith
 
 module _ {ℓ} {A : Type ℓ} where
-  -- two at a time, and where fewer are left
+  -- two at a time
   pub next2 : (l : List A) (i : ℕ) (z : A) → i + 1 < length l → drop i l ≡ getD l i z ∷ getD l (i + 1) z ∷ drop (i + 2) l
   next2 l i z h = let e : i + 1 + 1 ≡ i + 2 = omega arith in next l i z (omega arith) ∙ rw (next l (i + 1) z h, e)
-
-  few : (l : List A) → length l ≤ 1 → (l ≡ []) ⊎ ((a : A) × (l ≡ a ∷ []))
-  few [] h = inl refl
-  few (a ∷ []) h = inr (a, refl)
-  few (a ∷ b ∷ l) h = absurd (omega arith)
 
   -- reading the first n
   pub part-next : (l : List A) (n i : ℕ) (z : A) → i < n → n ≤ length l → drop i (take n l) ≡ getD l i z ∷ drop (i + 1) (take n l)
