@@ -1,18 +1,20 @@
 -- What is proved of rails: the turns of a loop over running lengths, their count, the partition point. Assumes nothing.
 use Prim.Native.Nat.{ℕ, zero, suc, _+_, _≤_, _<_}
 use native.Mathlib.Omega.{arith}
+use native.Mathlib.Numerals.{add-one}
 use mathlib.Core.Path.{_≡_, refl, ap}
 use mathlib.Core.Bool.{true, false}
 use mathlib.Core.List.{List, [], _∷_}
-use lib.ListN.{length, drop, getD}
-use lib.Ieee.{Float, nan, le}
+use lib.ListN.{length, drop, getD, drop-of-length-le}
+use lib.Seq.{drop-cons}
+use lib.Ieee.{Float, nan, lt, le}
 use Rattle.numbers.specs.Num.{_⊕_, zero64}
 use Rattle.geom.specs.declared.point.P.{P}
 use Rattle.geom.specs.Point.{dist}
 use Rattle.geom.specs.Outline.{points}
 use Rattle.geom.specs.OutlineLaws.{cornerAt, points-next, points-end}
 use Rattle.satinrules.specs.Arc.{lengthsFrom, lengths, partitionPoint}
-use Rattle.arc.specs.Rail.{laterLengths}
+use Rattle.arc.specs.Rail.{laterLengths, notBeyond}
 
 -- ---- running lengths from corner i on
 
@@ -52,3 +54,18 @@ partition-at s [] zero h f g = refl
 partition-at s [] (suc k) h f g = absurd (omega arith)
 partition-at s (c ∷ l) zero h f g = rw (g (omega arith))
 partition-at s (c ∷ l) (suc k) h f g = rw (f 0 (omega arith), partition-at s l k (omega arith) (λ i q. f (suc i) (omega arith)) (λ q. g (omega arith)))
+
+-- ---- the first from i on that lies beyond s
+
+module _ (s : Float) (l : List Float) (i : ℕ) where
+  pub beyond-here : i < length l → lt s (getD l i nan) ≡ true → notBeyond s (drop i l) ≡ 0
+  unfolding notBeyond
+  beyond-here h e = rw (drop-cons l i nan h, e)
+
+  pub beyond-next : i < length l → lt s (getD l i nan) ≡ false → notBeyond s (drop i l) ≡ suc (notBeyond s (drop (i + 1) l))
+  unfolding notBeyond
+  beyond-next h e = rw (add-one, drop-cons l i nan h, e)
+
+  pub beyond-end : length l ≤ i → notBeyond s (drop i l) ≡ 0
+  unfolding notBeyond
+  beyond-end h = rw (drop-of-length-le l h)

@@ -1,11 +1,11 @@
 // A rail by its running lengths, the point at a length along it, and the walker that keeps the rail's corners: satin.rs's `Arc`.
 ghost use mathlib.Core.Path.{_≡_};
 ghost use Prim.Native.Nat.{_+_, _*_, _<_, _≤_};
-ghost use lib.ListN.{length};
+ghost use lib.ListN.{length, drop};
 ghost use Rattle.seqs.specs.Slices.{put};
 ghost use Rattle.geom.specs.Outline.{points};
 ghost use Rattle.satinrules.specs.Arc.{lengths, clamp, partitionPoint, sideEnd, fraction, onSide, at};
-ghost use Rattle.arc.specs.Rail.{Rising, Railed, laterLengths};
+ghost use Rattle.arc.specs.Rail.{Rising, Railed, laterLengths, notBeyond};
 use geom::P;
 use geom::sewing::corner;
 
@@ -141,8 +141,10 @@ pub fn along<'a, 'b>(pts: &'a [f64], cum: &'b [f64], s: f64) -> P
     walker_at(Walker { pts }, cum, s)
 }
 
-// The first corner from k on that lies beyond s: where the side may end that s lies on. Nothing is promised of it, as it is tried.
-pub fn side_from(cum: &[f64], s: f64, k: usize) -> usize {
+// The first corner from k on that lies beyond s, where the side may end that s lies on; past the last where there is none.
+pub fn side_from(cum: &[f64], s: f64, k: usize) -> usize
+    ensures { λ r. ⌜ r ≡ k + notBeyond s (drop k (now (cum .entry))) ⌝ }
+{
     let mut i = k;
     while i < cum.len() {
         if s < cum[i] {

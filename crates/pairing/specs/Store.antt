@@ -1,5 +1,5 @@
 -- The running lengths of both rails, and the working slice of pairs: what stands in them. Definitions only.
-use Prim.Native.Nat.{_+_, _/_, _%_, _≤_}
+use Prim.Native.Nat.{ℕ, _+_, _/_, _%_, _≤_}
 use mathlib.Core.Path.{_≡_}
 use mathlib.Core.Bool.{true}
 use mathlib.Core.List.{List, map}
@@ -12,7 +12,7 @@ use Rattle.limits.specs.Limits.{goodNumbers}
 use Rattle.satinrules.specs.Arc.{lengths}
 use Rattle.satinrules.specs.Pairs.{pairAt}
 use Rattle.satinrules.specs.Calls.{railsOf, bothPoints}
-use Rattle.arc.specs.Rail.{Railed}
+use Rattle.arc.specs.Rail.{Railed, notBeyond}
 
 -- the running lengths of both rails, one after the other, stand at the front
 pub record Laid (a b rails : List Float) : Type 0 where
@@ -36,3 +36,7 @@ pub record Sound (a b : List Float) : Type 0 where
 -- the pairs at these places, four numbers each
 abbrev pub storedPairs : List Float → List Float → List Float → List P → List Float
 storedPairs a b sync ps = flat (bothPoints (map (pairAt (railsOf a b sync)) ps))
+
+-- the first corner of a flat rail from corner k on that lies beyond s
+abbrev pub sideFrom : List Float → Float → ℕ → ℕ
+sideFrom pts s k = k + notBeyond s (drop k (lengths (points pts)))

@@ -8,7 +8,7 @@ ghost use Rattle.geom.specs.Outline.{points};
 ghost use Rattle.geom.specs.Sewing.{flat};
 ghost use Rattle.satinrules.specs.Arc.{railAt};
 ghost use Rattle.pairing.specs.Walk.{walkPlaces};
-ghost use Rattle.pairing.specs.Store.{Laid, Sound, storedPairs};
+ghost use Rattle.pairing.specs.Store.{Laid, Sound, storedPairs, sideFrom};
 use crate::places::Pass;
 use crate::places::first_place;
 use crate::places::next_place;
@@ -43,7 +43,7 @@ pub struct Met {
 // The pair at a place, which is looked for from the last pair's sides on.
 pub fn pair_at(rails: &[f64], a: &[f64], b: &[f64], place: P, last: Sides) -> Met
     requires { ⌜ Laid (now a) (now b) (now rails) ⌝ }
-    ensures { λ r. ⌜ r .pair ≡ record { a = railAt (points (now (a .entry))) (place .x); b = railAt (points (now (b .entry))) (place .y) } ⌝ }
+    ensures { λ r. ⌜ (r .pair ≡ record { a = railAt (points (now (a .entry))) (place .x); b = railAt (points (now (b .entry))) (place .y) }) × (r .sides ≡ record { a = sideFrom (now (a .entry)) (place .x) (last .a); b = sideFrom (now (b .entry)) (place .y) (last .b) }) ⌝ }
 {
     let m = a.len() / 2;
     let n = b.len() / 2;

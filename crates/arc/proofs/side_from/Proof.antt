@@ -1,60 +1,42 @@
-use Prim.Native.Nat.{_-_, _≤_}
-use lib.ListN.{length}
+-- `side_from` meets its contract: what was passed does not lie beyond s. Assumes nothing.
+use mathlib.Core.Path.{_≡_, refl}
+use Prim.Native.Nat.{_+_, _-_}
+use native.Mathlib.Omega.{arith}
+use lib.ListN.{length, drop}
+use Rattle.arc.specs.Rail.{notBeyond}
+use Rattle.arc.specs.RailLaws.{beyond-here, beyond-next, beyond-end}
 use borrow.Author.Needs.{needs}
 use Rattle.arc.proofs.side_from.Statement.{statement}
 use Rattle.arc.proofs.side_from.Tie as tie
-use Rattle.arc.proofs.side_from.Reads as reads
-use Rattle.arc.proofs.side_from.Lts as lts
 
 abbrev Inv-loop : tie.InvT-loop
-Inv-loop cum s k i₀ i = i₀ ≤ i
+Inv-loop cum s k i₀ i = i + notBeyond s (drop i cum) ≡ i₀ + notBeyond s (drop i₀ cum)
 
 abbrev μ-loop : tie.MeasureT-loop
 μ-loop cum s k i₀ i = length cum - i
 
--- src/lib.rt:147:5
 loop-holds : tie.Need-loop-holds Inv-loop μ-loop
-loop-holds c = search needs
+loop-holds c = refl
 
--- src/lib.rt:148:16
-mul-if1 : tie.Need-mul-if1 Inv-loop μ-loop
-mul-if1 c = search needs
-
--- src/lib.rt:148:16
-shared-slice-read-if1 : tie.Need-shared-slice-read-if1 Inv-loop μ-loop
-shared-slice-read-if1 c = search needs
-
--- src/lib.rt:149:13
 returns : tie.Need-returns Inv-loop μ-loop
-returns c = search needs
+returns c =
+    let a = c .before .before .before .before .args in
+    let l = c .before .before .before .loop in
+    let z = beyond-here (a .s) (a .cum .now) (l .i) (c .before .before .loop-test .taken) (c .if1 .taken) in
+    omega (arith, l .inv, z)
 
--- src/lib.rt:151:9
-add-i : tie.Need-add-i Inv-loop μ-loop
-add-i c = search needs
-
--- src/lib.rt:147:5
-loop-less : tie.Need-loop-less Inv-loop μ-loop
-loop-less c = search needs
-
--- src/lib.rt:147:5
 loop-again : tie.Need-loop-again Inv-loop μ-loop
-loop-again c = search needs
+loop-again c =
+    let a = c .before .before .before .before .args in
+    let l = c .before .before .before .loop in
+    let z = beyond-next (a .s) (a .cum .now) (l .i) (c .before .before .loop-test .taken) (c .if1 .left) in
+    omega (arith, l .inv, z)
 
--- src/lib.rt:145:1
 returns-2 : tie.Need-returns-2 Inv-loop μ-loop
-returns-2 c = search needs
+returns-2 c =
+    let a = c .before .before .args in
+    let z = beyond-end (a .s) (a .cum .now) (c .before .loop .i) (omega (arith, c .loop-test .left)) in
+    omega (arith, c .before .loop .inv, z)
 
 pub side-from-spec : {M : Type 1} → statement M
-side-from-spec =
-    tie.close
-    (tie.spec
-    Inv-loop
-    μ-loop
-    loop-holds
-    mul-if1
-    shared-slice-read-if1
-    returns
-    add-i
-    loop-less
-    loop-again
-    returns-2)
+side-from-spec = tie.close (tie.spec Inv-loop μ-loop loop-holds (λ c. search needs) (λ c. search needs) returns (λ c. search needs) (λ c. search needs) loop-again returns-2)

@@ -54,7 +54,7 @@ loop-again c =
     let l = c .before .before .before .before .before .before .before .before .before .before .loop in
     let ps = walkPlaces (a .ends) (points (a .sync .now)) (a .pass) in
     let u = front-at (ap (λ x. storedPairs (a .a .now) (a .b .now) (a .sync .now) (x ++ (a .ends ∷ []))) (found-more (a .pass .step) (a .ends) (a .sync .now) (l .f) (c .before .before .before .before .before .before .before .before .before .loop-test .taken))) (l .inv) in
-    let e = rw (c .before .before .before .before .before .before .before .before .pair-at .ensures) at (c .before .before .before .before .put-pair .ensures) in
+    let e = rw (c .before .before .before .before .before .before .before .before .pair-at .ensures .0) at (c .before .before .before .before .put-pair .ensures) in
     rw (← c .next-place .ensures .0) (pair-put (a .a .now) (a .b .now) (a .sync .now) (l .f .place) (leftOf (a .pass .step) (a .ends) (a .sync .now) (l .f .walk) ++ (a .ends ∷ [])) ps u (c .before .before .before .before .before .before .before .before .before .before .before .before .before .before .before .before .before .pre .1) _ e)
 
 put-pair-requires-2 : tie.Need-put-pair-requires-2 Inv-loop μ-loop
@@ -72,7 +72,7 @@ same-length c =
     let l = c .before .before .before .before .before .before .before .loop in
     let ps = walkPlaces (a .ends) (points (a .sync .now)) (a .pass) in
     let u = front-at (ap (λ x. storedPairs (a .a .now) (a .b .now) (a .sync .now) (x ++ (a .ends ∷ []))) (found-none (a .pass .step) (a .ends) (a .sync .now) (l .f) (c .before .before .before .before .before .before .loop-test .left))) (l .inv) in
-    let e = rw (c .before .before .before .before .before .pair-at2 .ensures) at (c .before .before .put-pair2 .ensures) in
+    let e = rw (c .before .before .before .before .before .pair-at2 .ensures .0) at (c .before .before .put-pair2 .ensures) in
     pair-put (a .a .now) (a .b .now) (a .sync .now) (a .ends) [] ps u (c .before .before .before .before .before .before .before .before .before .before .before .before .before .before .pre .1) _ e .len
 
 returns : tie.Need-returns Inv-loop μ-loop
@@ -82,7 +82,7 @@ returns c =
     let l = c .before .before .before .before .before .before .before .loop in
     let ps = walkPlaces (a .ends) (points (a .sync .now)) (a .pass) in
     let u = front-at (ap (λ x. storedPairs (a .a .now) (a .b .now) (a .sync .now) (x ++ (a .ends ∷ []))) (found-none (a .pass .step) (a .ends) (a .sync .now) (l .f) (c .before .before .before .before .before .before .loop-test .left))) (l .inv) in
-    let e = rw (c .before .before .before .before .before .pair-at2 .ensures) at (c .before .before .put-pair2 .ensures) in
+    let e = rw (c .before .before .before .before .before .pair-at2 .ensures .0) at (c .before .before .put-pair2 .ensures) in
     let ls = storedPairs (a .a .now) (a .b .now) (a .sync .now) ps in
     let g = front-at (stored-none (a .a .now) (a .b .now) (a .sync .now)) (pair-put (a .a .now) (a .b .now) (a .sync .now) (a .ends) [] ps u (c .before .before .before .before .before .before .before .before .before .before .before .before .before .before .pre .1) _ e) in
     (g .len, rw (← stored-length (a .a .now) (a .b .now) (a .sync .now) ps) (ap (take (length ls)) (front-end g) ∙ take-at ls _ (length ls) refl))

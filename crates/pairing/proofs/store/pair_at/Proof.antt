@@ -29,7 +29,7 @@ returns c =
     let a = start .args in
     let y : length (a .a .now) / 2 - 0 ≡ length (a .a .now) / 2 = omega arith in
     let z : length (a .a .now) / 2 + length (a .b .now) / 2 - length (a .a .now) / 2 ≡ length (a .b .now) / 2 = omega arith in
-    rw (c .before .before .along-from .ensures, c .along-from2 .ensures, y, z, start .pre .onA, start .pre .onB)
+    (rw (c .before .before .along-from .ensures, c .along-from2 .ensures, y, z, start .pre .onA, start .pre .onB), rw (c .before .before .before .before .before .before .side-from .ensures, c .before .before .before .before .side-from2 .ensures, y, z, start .pre .onA, start .pre .onB))
 
 pub pair-at-spec : {M : Type 1} → statement M
 pair-at-spec =
