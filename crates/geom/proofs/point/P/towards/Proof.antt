@@ -1,4 +1,6 @@
-use lib.Ieee.{ofBits, round}
+use mathlib.Core.Path.{_≡_}
+use mathlib.Core.Bool.{true, false}
+use lib.Ieee.{ofBits, round, lt}
 use borrow.Author.Needs.{needs}
 use Rattle.numbers.specs.Num.{literal}
 use Rattle.geom.specs.Point.{norm, tiny}
@@ -7,11 +9,15 @@ use Rattle.geom.proofs.point.P.towards.Tie as tie
 
 returns : tie.Need-returns
 unfolding norm tiny literal round ofBits
-returns c = rw (c .times .ensures, ← c .before .before .pre, c .before .if1 .taken)
+returns c =
+    let long : lt tiny (c .before .before .args .l) ≡ true = c .before .if1 .taken in
+    rw (c .times .ensures, ← c .before .before .pre, long)
 
 returns-2 : tie.Need-returns-2
 unfolding norm tiny literal round ofBits
-returns-2 c = rw (← c .before .pre, c .if1 .left)
+returns-2 c =
+    let short : lt tiny (c .before .args .l) ≡ false = c .if1 .left in
+    rw (← c .before .pre, short)
 
 pub towards-spec : {M : Type 1} → statement M
 towards-spec =
