@@ -286,6 +286,8 @@ fn timed_tatami(mut function: Function) -> Function {
     cases.extend(corners.map(|(n, f)| (format!("100 rows, {n} corners"), f)));
     let rows = crests::by_rows().into_iter();
     cases.extend(rows.map(|(n, f)| (format!("40 corners, {n} rows"), f)));
+    let points = crests::by_points().into_iter();
+    cases.extend(points.map(|f| (format!("100 rows, {} points", points_of(&f)), f)));
     for (name, fill) in cases {
         function = function.timed_on(
             format!("tatami {name}"),
@@ -295,6 +297,11 @@ fn timed_tatami(mut function: Function) -> Function {
         );
     }
     function
+}
+
+fn points_of(fill: &Fill) -> usize {
+    let sections = tatami(&fill.outline.rings(), fill.rule(), &fill.params());
+    sections.iter().map(Vec::len).sum()
 }
 
 fn timed_row_list(mut function: Function) -> Function {

@@ -43,6 +43,15 @@ pub fn by_rows() -> Vec<(usize, Fill)> {
     [100, 200, 500, 1000, 2000, 4096].map(fill).to_vec()
 }
 
+/// A shield of 40 corners and 100 rows, from 822 needle points to 31,298: by the stitch's length.
+pub fn by_points() -> Vec<Fill> {
+    let fill = |len| Fill {
+        len,
+        ..traced(&[shield(40, 400.0, 400.0)])
+    };
+    [100.0, 40.0, 20.0, 10.0, 4.0, 2.0].map(fill).to_vec()
+}
+
 /// The largest outline with the most rows, and one with many pieces in each of its rows.
 pub fn large() -> Vec<(&'static str, Fill)> {
     let ring = Fill {
