@@ -434,7 +434,10 @@ pub mod patterns {
 
 /// Satin columns.
 pub mod satin {
-    use super::raw::{beahcerot_column, beahcerot_pairs, beahcerot_s_stitch, beahcerot_split_long};
+    use super::raw::{
+        beahcerot_column, beahcerot_column_room, beahcerot_pairs, beahcerot_pairs_room,
+        beahcerot_s_stitch, beahcerot_split_long,
+    };
     use crate::inputs::rails::{Column, Matched, Path, Rails};
 
     pub fn split_long(p: &Path, out: &mut [f64], count: &mut u64) -> u64 {
@@ -480,6 +483,44 @@ pub mod satin {
                 out.as_mut_ptr(),
                 out.len(),
                 count,
+            )
+        }
+    }
+
+    pub fn pairs_room(m: &Matched, floats: &mut u64) -> u64 {
+        let Rails { a, b, sync } = &m.rails;
+        unsafe {
+            beahcerot_pairs_room(
+                a.as_ptr(),
+                a.len(),
+                b.as_ptr(),
+                b.len(),
+                sync.as_ptr(),
+                sync.len(),
+                m.step,
+                floats,
+            )
+        }
+    }
+
+    pub fn column_room(c: &Column, floats: &mut u64) -> u64 {
+        let Rails { a, b, sync } = &c.rails;
+        unsafe {
+            beahcerot_column_room(
+                a.as_ptr(),
+                a.len(),
+                b.as_ptr(),
+                b.len(),
+                sync.as_ptr(),
+                sync.len(),
+                c.spacing,
+                c.pull,
+                c.underlay,
+                c.run_len,
+                c.short_stitches,
+                c.split,
+                c.style,
+                floats,
             )
         }
     }

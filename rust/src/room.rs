@@ -1,6 +1,7 @@
 //! Room lent until there is enough. The library says WORK or ROOM exactly when
 //! what it was lent is too short, and touches no output then, so that asking
-//! again with more is all there is to do.
+//! again with more is all there is to do. How much a satin call needs to work
+//! in the library says itself.
 
 use crate::{P, Polyline, Refusal, flat, points};
 
@@ -19,6 +20,19 @@ impl Room {
     /// For a call that has no working slice.
     pub fn output(out: usize) -> Room {
         Room { work: 0, out }
+    }
+
+    /// Enough to work in, by a room call of the library; and twice as much for
+    /// the output, which is enough for a column that is neither split nor bent.
+    pub fn said(call: impl FnOnce(&mut u64) -> u64) -> Result<Room, Refusal> {
+        let mut floats = 0;
+        match call(&mut floats) {
+            DONE => Ok(Room {
+                work: floats as usize,
+                out: 2 * floats as usize,
+            }),
+            number => Err(Refusal::of(number)),
+        }
     }
 }
 

@@ -1,6 +1,9 @@
 //! Satin columns between two rails.
 
-use crate::raw::{beahcerot_column, beahcerot_pairs, beahcerot_s_stitch, beahcerot_split_long};
+use crate::raw::{
+    beahcerot_column, beahcerot_column_room, beahcerot_pairs, beahcerot_pairs_room,
+    beahcerot_s_stitch, beahcerot_split_long,
+};
 use crate::room::{Room, sewn, sewn_along};
 use crate::{P, Polyline, Refusal, flat};
 
@@ -66,21 +69,24 @@ impl Flat {
             sync,
         }
     }
-
-    /// A first guess of the room that rails need: a few pairs for each corner.
-    fn guess(&self) -> Room {
-        let corners = self.a.len() + self.b.len();
-        Room {
-            work: 64 * corners + 2 * self.sync.len() + 1024,
-            out: 32 * corners + 1024,
-        }
-    }
 }
 
 /// Matched points on both rails, about `step` apart.
 pub fn pairs(r: &Rails, step: f64) -> Result<Vec<(P, P)>, Refusal> {
     let f = Flat::of(r);
-    let both = sewn(f.guess(), |work, out, count| unsafe {
+    let room = Room::said(|floats| unsafe {
+        beahcerot_pairs_room(
+            f.a.as_ptr(),
+            f.a.len(),
+            f.b.as_ptr(),
+            f.b.len(),
+            f.sync.as_ptr(),
+            f.sync.len(),
+            step,
+            floats,
+        )
+    })?;
+    let both = sewn(room, |work, out, count| unsafe {
         beahcerot_pairs(
             f.a.as_ptr(),
             f.a.len(),
@@ -108,7 +114,25 @@ pub fn column(r: &Rails, p: &SatinParams) -> Result<Polyline, Refusal> {
         Some(max) => max,
     };
     let f = Flat::of(r);
-    sewn(f.guess(), |work, out, count| unsafe {
+    let room = Room::said(|floats| unsafe {
+        beahcerot_column_room(
+            f.a.as_ptr(),
+            f.a.len(),
+            f.b.as_ptr(),
+            f.b.len(),
+            f.sync.as_ptr(),
+            f.sync.len(),
+            p.spacing,
+            p.pull,
+            p.underlay.into(),
+            p.run_len,
+            p.short_stitches,
+            split,
+            p.style.number(),
+            floats,
+        )
+    })?;
+    sewn(room, |work, out, count| unsafe {
         beahcerot_column(
             f.a.as_ptr(),
             f.a.len(),

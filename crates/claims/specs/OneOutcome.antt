@@ -51,6 +51,8 @@ use Rattle.satin.proofs.pairs
 use Rattle.satin.proofs.split_long
 use Rattle.satin.proofs.s_stitch
 use Rattle.column.proofs.column
+use Rattle.satinroom.proofs.pairs_room
+use Rattle.satinroom.proofs.column_room
 use Rattle.patterns.proofs.bounds
 use Rattle.patterns.proofs.clip_inside
 use Rattle.patterns.proofs.cross_stitch
@@ -198,6 +200,12 @@ s-stitch-outcome κs a x y h k = both (one (h .0) (k .0)) (λ i. (tt, (one (h .1
 
 pub column-outcome : One column.ended column.Reads.Learnt
 column-outcome κs a x y h k = both (one (h .0) (k .0)) (λ i. (tt, (tt, (tt, (tt, (one (h .2) (k .2) i, (one (h .1) (k .1) i, tt)))))))
+
+pub pairs-room-outcome : One pairs_room.ended pairs_room.Reads.Learnt
+pairs-room-outcome κs a x y h k = both (one h k) refl
+
+pub column-room-outcome : One column_room.ended column_room.Reads.Learnt
+column-room-outcome κs a x y h k = both (one h k) refl
 
 pub bounds-outcome : One bounds.ended bounds.Reads.Learnt
 bounds-outcome κs a x y h k = both (box-one _ _ (one h k)) refl

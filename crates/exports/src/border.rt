@@ -3,7 +3,10 @@
 ghost use mathlib.Core.Path.{_≡_};
 ghost use lib.ListN.{length};
 ghost use Rattle.satinrules.specs.Calls.{splitSewn, splitOutput, sStitchSewn, sStitchOutput, pairsSewn, pairsOutput, pairsWork, columnSewn, columnOutput, columnWork};
+ghost use Rattle.satinroom.specs.Room.{pairsRoomOf, columnRoomOf};
 ghost use Rattle.exports.specs.Borders.{styleOf, satinOf};
+use satinroom::column_room;
+use satinroom::pairs_room;
 use satinrules::Satin;
 use satinrules::Style;
 use satinrules::split_of;
@@ -48,6 +51,22 @@ pub extern "C" fn beahcerot_pairs(
     r.answer
 }
 
+// Working room that is always enough for `beahcerot_pairs`: how many floats, none after a refusal.
+#[no_mangle]
+pub extern "C" fn beahcerot_pairs_room(
+    a: &[f64],
+    b: &[f64],
+    sync: &[f64],
+    step: f64,
+    floats: &mut u64,
+) -> u64
+    ensures { λ r. ⌜ (r ≡ pairsRoomOf (now (a .entry)) (now (b .entry)) (now (sync .entry)) step .answer) × (now (floats .exit) ≡ pairsRoomOf (now (a .entry)) (now (b .entry)) (now (sync .entry)) step .floats) ⌝ }
+{
+    let r = pairs_room(a, b, sync, step);
+    *floats = r.floats;
+    r.answer
+}
+
 fn style_of(n: u64) -> Style
     ensures { λ r. ⌜ r ≡ styleOf n ⌝ }
 {
@@ -58,6 +77,29 @@ fn style_of(n: u64) -> Style
         return Style::SStitch;
     }
     Style::Zigzag
+}
+
+// The settings that the numbers say.
+fn satin_of(
+    spacing: f64,
+    pull: f64,
+    underlay: u64,
+    run_len: f64,
+    short_stitches: bool,
+    split: f64,
+    style: u64,
+) -> Satin
+    ensures { λ r. ⌜ r ≡ satinOf spacing pull underlay «run_len» «short_stitches» split style ⌝ }
+{
+    Satin {
+        spacing,
+        pull,
+        underlay,
+        run_len,
+        short_stitches,
+        split: split_of(split),
+        style: style_of(style),
+    }
 }
 
 #[no_mangle]
@@ -78,16 +120,47 @@ pub extern "C" fn beahcerot_column(
 ) -> u64
     ensures { λ r. ⌜ (r ≡ columnSewn (now (a .entry)) (now (b .entry)) (now (sync .entry)) (satinOf spacing pull underlay «run_len» «short_stitches» split style) (length (now (work .entry))) (length (now (out .entry))) .answer) × (now (count .exit) ≡ columnSewn (now (a .entry)) (now (b .entry)) (now (sync .entry)) (satinOf spacing pull underlay «run_len» «short_stitches» split style) (length (now (work .entry))) (length (now (out .entry))) .points) × (now (out .exit) ≡ columnOutput (now (a .entry)) (now (b .entry)) (now (sync .entry)) (satinOf spacing pull underlay «run_len» «short_stitches» split style) (length (now (work .entry))) (now (out .entry))) × (now (work .exit) ≡ columnWork (now (a .entry)) (now (b .entry)) (now (sync .entry)) (satinOf spacing pull underlay «run_len» «short_stitches» split style) (now (work .entry)) (length (now (out .entry)))) ⌝ }
 {
-    let g = Satin {
+    let g = satin_of(
         spacing,
         pull,
         underlay,
         run_len,
         short_stitches,
-        split: split_of(split),
-        style: style_of(style),
-    };
+        split,
+        style,
+    );
     let r = column::column(a, b, sync, g, work, out);
     *count = r.points;
+    r.answer
+}
+
+// Working room that is always enough for `beahcerot_column`: how many floats, none after a refusal.
+#[no_mangle]
+pub extern "C" fn beahcerot_column_room(
+    a: &[f64],
+    b: &[f64],
+    sync: &[f64],
+    spacing: f64,
+    pull: f64,
+    underlay: u64,
+    run_len: f64,
+    short_stitches: bool,
+    split: f64,
+    style: u64,
+    floats: &mut u64,
+) -> u64
+    ensures { λ r. ⌜ (r ≡ columnRoomOf (now (a .entry)) (now (b .entry)) (now (sync .entry)) (satinOf spacing pull underlay «run_len» «short_stitches» split style) .answer) × (now (floats .exit) ≡ columnRoomOf (now (a .entry)) (now (b .entry)) (now (sync .entry)) (satinOf spacing pull underlay «run_len» «short_stitches» split style) .floats) ⌝ }
+{
+    let g = satin_of(
+        spacing,
+        pull,
+        underlay,
+        run_len,
+        short_stitches,
+        split,
+        style,
+    );
+    let r = column_room(a, b, sync, g);
+    *floats = r.floats;
     r.answer
 }

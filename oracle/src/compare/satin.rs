@@ -1,6 +1,6 @@
-//! Satin columns: `split_long`, `s_stitch`, `pairs`, `column`.
+//! Satin columns: `split_long`, `s_stitch`, `pairs`, `column`, and the room for the last two.
 
-use super::{Function, Operands, hex, list, no_tie, simplicity};
+use super::{Function, Operands, Outcome, hex, list, no_tie, simplicity};
 use crate::expect::DONE;
 use crate::inputs::borders;
 use crate::inputs::column_boundaries as boundaries;
@@ -8,14 +8,31 @@ use crate::inputs::fills::{lend, ways};
 use crate::inputs::outlines::points;
 use crate::inputs::rails::{self, Column, Matched, Path, Rails};
 use crate::ours::satin as ours;
-use crate::owed::satin as owed;
+use crate::owed::satin::{self as owed, Enough};
 use crate::owed::{Left, MARGIN, MARK, fresh};
 use crate::rng::Rng;
 use std::cell::RefCell;
 use zigzag::satin;
 
 pub fn functions() -> Vec<Function> {
-    vec![split_long(), s_stitch(), matched(), column()]
+    vec![
+        split_long(),
+        s_stitch(),
+        matched(),
+        column(),
+        room(
+            "pairs_room",
+            pairs_calls(),
+            owed::pairs_room,
+            ours::pairs_room,
+        ),
+        room(
+            "column_room",
+            column_calls(),
+            owed::column_room,
+            ours::column_room,
+        ),
+    ]
 }
 
 fn split_long() -> Function {
@@ -60,9 +77,8 @@ fn s_stitch() -> Function {
     )
 }
 
-/// `pairs`.
-fn matched() -> Function {
-    let calls = Calls {
+fn pairs_calls() -> Calls<Matched> {
+    Calls {
         name: "pairs",
         small: boundaries::matched,
         large: boundaries::large_matched,
@@ -76,7 +92,12 @@ fn matched() -> Function {
             };
             ours::pairs(m, work, out, count)
         },
-    };
+    }
+}
+
+/// `pairs`.
+fn matched() -> Function {
+    let calls = pairs_calls();
     let mut function = function(&calls);
     for (name, given) in borders::matched() {
         function = function.timed_on(
@@ -89,8 +110,8 @@ fn matched() -> Function {
     function
 }
 
-fn column() -> Function {
-    let calls = Calls {
+fn column_calls() -> Calls<Column> {
+    Calls {
         name: "column",
         small: boundaries::columns,
         large: boundaries::large_columns,
@@ -104,7 +125,11 @@ fn column() -> Function {
             };
             ours::column(c, work, out, count)
         },
-    };
+    }
+}
+
+fn column() -> Function {
+    let calls = column_calls();
     let mut function = function(&calls);
     for (name, given) in borders::columns() {
         function = function.timed_on(
@@ -232,6 +257,52 @@ fn function<I: Operands + Clone + 'static>(calls: &Calls<I>) -> Function {
         no_tie,
     )
     .usually(20_000)
+}
+
+impl Outcome for Enough {
+    fn same(&self, other: &Self) -> bool {
+        self == other
+    }
+    fn show(&self) -> String {
+        let Enough {
+            answer,
+            floats,
+            call,
+        } = self;
+        format!("answer {answer} floats {floats} the call then {call}")
+    }
+    fn answer(&self) -> Option<u64> {
+        Some(self.answer)
+    }
+}
+
+/// More than any call needs.
+const PLENTY: u64 = 1 << 20;
+
+/// A room call on the inputs of its call, which is then lent just what was said.
+fn room<I: Operands + Clone + 'static>(
+    name: &'static str,
+    calls: Calls<I>,
+    owed: fn(&I) -> Enough,
+    ours: fn(&I, &mut u64) -> u64,
+) -> Function {
+    let (small, large) = ((calls.small)(), (calls.large)());
+    let make = move |rng: &mut Rng, call: u64| {
+        let boundary = small.iter().chain(&large).nth(call as usize);
+        boundary.cloned().unwrap_or_else(|| (calls.any)(rng))
+    };
+    let said = move |given: &I| {
+        let mut floats = MARK;
+        let answer = ours(given, &mut floats);
+        let mut work = vec![0.0; floats.min(PLENTY) as usize];
+        let call = (calls.ours)(given, &mut [&mut work[..], &mut []], &mut 0);
+        Enough {
+            answer,
+            floats,
+            call,
+        }
+    };
+    Function::new(name, make, owed, said, no_tie).usually(20_000)
 }
 
 /// The boundaries first, each lent in every way; the large ones, with the need

@@ -98,12 +98,16 @@ fn rails_checks(r: &Rails) -> [(u64, bool); 2] {
     ]
 }
 
-/// |a| + |b| + 2·(sync count) + 4 + 8N floats, N the most pairs of any pass.
+/// |a| + |b| + 2·(sync count) + 4 + 8N floats.
+fn floats(r: &Rails, n: usize) -> usize {
+    r.a.len() / 2 + r.b.len() / 2 + 2 * (r.sync.len() / 2) + 4 + 8 * n
+}
+
+/// The need, N the most pairs of any pass.
 fn work(r: &Rails, steps: &[f64]) -> usize {
     let original = r.original();
     let counts = steps.iter().map(|&s| satin::pairs(&original, s).len());
-    let most = counts.max().unwrap_or(0);
-    r.a.len() / 2 + r.b.len() / 2 + 2 * (r.sync.len() / 2) + 4 + 8 * most
+    floats(r, counts.max().unwrap_or(0))
 }
 
 /// SIZE, or DONE: asked of rails and steps that passed 1 to 3.
@@ -141,6 +145,46 @@ fn need(r: &Rails, steps: &[f64], count: impl FnOnce() -> u64) -> Option<Vec<usi
         return Some(vec![3, 5]);
     }
     (size(r, steps) == DONE).then(|| vec![work(r, steps), room(count())])
+}
+
+/// What a room call says, and what the call itself answers that is lent just
+/// so many floats and no room for its points.
+#[derive(PartialEq)]
+pub struct Enough {
+    pub answer: u64,
+    pub floats: u64,
+    pub call: u64,
+}
+
+/// The first refusal, which is the call's too; or the need for a pair more than
+/// the largest n. There is always a pair, unless a rail has under 2 corners.
+fn enough(first: u64, r: &Rails, steps: &[f64]) -> Enough {
+    let said = |answer, floats, call| Enough {
+        answer,
+        floats,
+        call,
+    };
+    if first != DONE {
+        return said(first, 0, first);
+    }
+    if r.few() {
+        return said(DONE, 0, DONE);
+    }
+    if size(r, steps) != DONE {
+        return said(SIZE, 0, SIZE);
+    }
+    let original = r.original();
+    let largest = steps.iter().map(|&s| expect::steps(&original, s)).max();
+    let n = largest.expect("a pass is sewn") as usize;
+    said(DONE, floats(r, n + 1) as u64, ROOM)
+}
+
+pub fn pairs_room(m: &Matched) -> Enough {
+    enough(pairs_gate(m), &m.rails, &[m.step])
+}
+
+pub fn column_room(c: &Column) -> Enough {
+    enough(column_gate(c), &c.rails, &pass_steps(c))
 }
 
 fn pairs_gate(m: &Matched) -> u64 {
