@@ -84,6 +84,19 @@ fn side_end(k: usize, n: usize) -> usize
     k
 }
 
+// The corner at which the side ends that s lies on. A rail of two corners has one side, and nothing is looked for.
+fn side_of(cum: &[f64], s: f64) -> usize
+    requires { ⌜ (2 ≤ length (now cum)) × Rising (now cum) ⌝ }
+    ensures { λ r. ⌜ (r ≡ sideEnd (partitionPoint s (now (cum .entry))) (length (now (cum .entry)))) × (1 ≤ r) × (r < length (now (cum .entry))) ⌝ }
+{
+    let n = cum.len();
+    if n == 2 {
+        return 1;
+    }
+    let k = partition_point(cum, s);
+    side_end(k, n)
+}
+
 // How far s is on the way from c to d.
 fn fraction(c: f64, d: f64, s: f64) -> f64
     ensures { λ r. ⌜ r ≡ fraction c d s ⌝ }
@@ -115,9 +128,7 @@ pub fn at(pts: &[f64], cum: &[f64], s: f64) -> P
         return corner(pts, 0);
     }
     let t = clamp(s, 0.0, cum[n - 1]);
-    let k = partition_point(cum, t);
-    let i = side_end(k, n);
-    on_side(pts, cum, t, i)
+    on_side(pts, cum, t, side_of(cum, t))
 }
 
 // A walker along one rail: it keeps the rail's corners.

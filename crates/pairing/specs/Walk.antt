@@ -13,7 +13,6 @@ use Rattle.polyline.specs.Line.{shortest}
 use Rattle.satinrules.specs.Pairs.{origin, kept, centre, totalOf, countOf, inWindow, windows}
 use Rattle.pairing.specs.declared.places.Pass.{Pass}
 use Rattle.pairing.specs.declared.places.Walk.{Walk}
-use Rattle.pairing.specs.declared.places.Found.{Found}
 
 -- the sync points that are kept after q, from place i of the flat list on; none after the ends
 unfoldable pub restOf : P → List Float → Bool → P → ℕ → List P
@@ -31,9 +30,9 @@ leftOf step ends sync k = inWindow step (k .from) (k .to) (windows step (k .to) 
 unfoldable pub goesOn : Walk → Bool
 goesOn k = lt (k .s) (centre (k .from) (k .to) ⊖ shortest) && ltb 0 (k .left)
 
--- what was found, and the places after it
-unfoldable pub foundOf : Float → P → List Float → Found → List P
-foundOf step ends sync f = cond (f .found) (f .place ∷ leftOf step ends sync (f .walk)) []
+-- the walk at s in its window, with at most m places to come
+abbrev pub walkAt : Walk → Float → ℕ → Walk
+walkAt k s m = record { from = k .from; to = k .to; last = k .last; next = k .next; s = s; left = m }
 
 -- the pass that `step` asks for: n, and the length of its steps
 unfoldable pub passOf : P → List P → Float → Pass

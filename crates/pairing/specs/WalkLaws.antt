@@ -1,7 +1,7 @@
 -- What is proved of the walk: its turns, and that it comes to the places. Assumes nothing.
 use Prim.Native.Nat.{ℕ, zero, suc, _+_, _-_, _≤_, _<_}
 use native.Mathlib.Omega.{arith}
-use mathlib.Core.Path.{_≡_, refl, _∙_}
+use mathlib.Core.Path.{_≡_, refl, sym, ap, _∙_}
 use mathlib.Core.Bool.{Bool, true, false, _&&_, cond}
 use mathlib.Core.Logic.{inl, inr}
 use mathlib.Core.List.{List, [], _∷_}
@@ -18,8 +18,7 @@ use Rattle.polyline.specs.Line.{shortest}
 use Rattle.satinrules.specs.Pairs.{origin, grows, kept, centre, centresFrom, placeAt, inWindow, windows, places}
 use Rattle.pairing.specs.declared.places.Pass.{Pass}
 use Rattle.pairing.specs.declared.places.Walk.{Walk}
-use Rattle.pairing.specs.declared.places.Found.{Found}
-use Rattle.pairing.specs.Walk.{restOf, laterOf, leftOf, goesOn, foundOf, passOf, walkPlaces}
+use Rattle.pairing.specs.Walk.{restOf, laterOf, leftOf, walkAt, goesOn, passOf, walkPlaces}
 
 -- ---- the sync points that are kept
 
@@ -62,10 +61,6 @@ module _ (step : Float) (ends : P) (sync : List Float) (k : Walk) where
   unfolding restOf windows
   walk-ends e l = walk-over e ∙ rw l
 
--- the walk after a place in its window
-abbrev pub steppedOf : Float → Walk → Walk
-steppedOf step k = record { from = k .from; to = k .to; last = k .last; next = k .next; s = k .s ⊕ step; left = k .left - 1 }
-
 module _ (k : Walk) (e : goesOn k ≡ true) where
   both : (lt (k .s) (centre (k .from) (k .to) ⊖ shortest) ≡ true) × (ltb 0 (k .left) ≡ true)
   unfolding goesOn
@@ -74,9 +69,14 @@ module _ (k : Walk) (e : goesOn k ≡ true) where
   pub goes-left : 0 < k .left
   goes-left = ltb-true 0 (k .left) (both .1)
 
-  pub walk-goes : (step : Float) (ends : P) (sync : List Float) → leftOf step ends sync k ≡ placeAt (k .from) (k .to) (k .s) ∷ leftOf step ends sync (steppedOf step k)
+  pub walk-goes : (step : Float) (ends : P) (sync : List Float) → leftOf step ends sync k ≡ placeAt (k .from) (k .to) (k .s) ∷ leftOf step ends sync (walkAt k (k .s ⊕ step) (k .left - 1))
   unfolding leftOf
   walk-goes step ends sync = window-goes step (k .from) (k .to) (windows step (k .to) (laterOf ends sync k)) (k .s) (k .left) (both .0) goes-left
+
+-- what the code's test says
+pub goes-is : (k : Walk) (s end : Float) (left : ℕ) {r b : Bool} → end ≡ centre (k .from) (k .to) ⊖ shortest → r ≡ (lt s end && ltb 0 left) → r ≡ b → goesOn (walkAt k s left) ≡ b
+unfolding goesOn
+goes-is k s end left e f h = ap (λ (x : Float). lt s x && ltb 0 left) (sym e) ∙ sym f ∙ h
 
 -- ---- what is kept after q
 
@@ -104,27 +104,7 @@ pub windows-on : (step : Float) (p q : P) {qs rest : List P} (s : Float) (m : �
 unfolding windows
 windows-on step p q s m e = rw e
 
--- ---- what is found
-
-module _ (step : Float) (ends : P) (sync : List Float) (f : Found) where
-  pub found-more : f .found ≡ true → foundOf step ends sync f ≡ f .place ∷ leftOf step ends sync (f .walk)
-  unfolding foundOf
-  found-more e = rw e
-
-  pub found-none : f .found ≡ false → foundOf step ends sync f ≡ []
-  unfolding foundOf
-  found-none e = rw e
-
--- how many more there can be
-abbrev pub atMost : Found → ℕ
-atMost f = cond (f .found) (f .walk .left + 1) 0
-
--- the one found after f has one less to come
-pub at-most-less : (f g : Found) → f .found ≡ true → cond (g .found) (g .walk .left + 1) (f .walk .left) ≡ f .walk .left → atMost g + 1 ≤ atMost f
-at-most-less f g e h = rw e (elim (either (g .found)) [ inl t ↦ rw t (omega (arith, rw t at h)) | inr t ↦ rw t (omega arith) ])
-
-pub at-most-first : (f : Found) (n : ℕ) → cond (f .found) (f .walk .left + 1) n ≡ n → atMost f ≤ n
-at-most-first f n h = elim (either (f .found)) [ inl t ↦ rw t (omega (arith, rw t at h)) | inr t ↦ rw t (omega arith) ]
+-- ---- how many places there are
 
 -- the count of a pass's places: those of the windows, and the ends
 pub places-count : (ends : P) (sync : List P) (w : Pass) → length (walkPlaces ends sync w) ≡ length (windows (w .step) origin (kept ends origin sync) zero64 (w .n)) + 1
@@ -135,8 +115,6 @@ places-count ends sync w = length-append (windows (w .step) origin (kept ends or
 pub places-are : (ends : P) (sync : List P) (step : Float) → walkPlaces ends sync (passOf ends sync step) ≡ places ends sync step
 unfolding walkPlaces passOf places
 places-are ends sync step = refl
-
--- ---- how many places there can be
 
 window-bound : (step : Float) (p q : P) (on : Float → ℕ → List P) → ((s : Float) (m : ℕ) → length (on s m) ≤ m) → (s : Float) (m : ℕ) → length (inWindow step p q on s m) ≤ m
 unfolding inWindow

@@ -1,15 +1,17 @@
-// The places of the pairs, handed out one at a time: no slice is needed to count them.
+// The places of the pairs, window by window: no slice is needed to count them.
 ghost use mathlib.Core.Path.{_≡_};
-ghost use mathlib.Core.Bool.{true, false, cond};
+ghost use mathlib.Core.Bool.{false, _&&_};
 ghost use mathlib.Core.List.{List, _∷_};
-ghost use Prim.Native.Nat.{_+_, _-_, _^_, _<_};
+ghost use Prim.Native.Nat.{_+_, _^_, _<_, _≤_};
+ghost use lib.Dec.{ltb};
 ghost use lib.ListN.{length, drop};
-ghost use lib.Ieee.{Float};
-ghost use Rattle.numbers.specs.Num.{_⊖_, _⊕_, zero64};
+ghost use lib.Ieee.{Float, lt};
+ghost use Rattle.numbers.specs.Num.{_⊖_, zero64};
 ghost use Rattle.geom.specs.declared.point.P.{P};
 ghost use Rattle.geom.specs.Outline.{points};
+ghost use Rattle.polyline.specs.Line.{shortest};
 ghost use Rattle.satinrules.specs.Pairs.{origin, grows, kept, centre, totalOf, placeAt, windows};
-ghost use Rattle.pairing.specs.Walk.{restOf, leftOf, foundOf, passOf, walkPlaces, goesOn};
+ghost use Rattle.pairing.specs.Walk.{restOf, laterOf, leftOf, walkAt, passOf, walkPlaces, goesOn};
 use geom::P;
 use geom::sewing::corner;
 use geom::steps::steps;
@@ -36,13 +38,6 @@ pub struct Walk {
     pub next: usize,
     pub s: f64,
     pub left: u64,
-}
-
-// The next place and the walk after it, or none.
-pub struct Found {
-    pub found: bool,
-    pub place: P,
-    pub walk: Walk,
 }
 
 // Strictly beyond p on both rails, and strictly below both lengths.
@@ -126,18 +121,25 @@ pub fn pass_of(sync: &[f64], ends: P, step: f64) -> Pass
     }
 }
 
-// Whether there is another place in the window.
-fn goes(k: Walk) -> bool
-    ensures { λ r. ⌜ r ≡ goesOn k ⌝ }
+// Up to here the window from p to q has places.
+pub fn window_end(p: P, q: P) -> f64
+    ensures { λ r. ⌜ r ≡ centre p q ⊖ shortest ⌝ }
 {
-    if k.s < centre(k.from, k.to) - 1e-9 {
-        return k.left > 0;
+    centre(p, q) - 1e-9
+}
+
+// Whether there is another place in a window that has them up to `end`.
+pub fn goes(s: f64, end: f64, left: u64) -> bool
+    ensures { λ r. ⌜ r ≡ (lt s end && ltb 0 left) ⌝ }
+{
+    if s < end {
+        return left > 0;
     }
     false
 }
 
 // The place at s in the window from p to q.
-fn place_at(p: P, q: P, s: f64) -> P
+pub fn place_at(p: P, q: P, s: f64) -> P
     ensures { λ r. ⌜ r ≡ placeAt p q s ⌝ }
 {
     let c = centre(p, q);
@@ -156,7 +158,7 @@ fn place_at(p: P, q: P, s: f64) -> P
 }
 
 // The walk at the start of the first window.
-fn start(sync: &[f64], ends: P, n: u64) -> Walk
+pub fn start(sync: &[f64], ends: P, n: u64) -> Walk
     ensures { λ r. ⌜ (r .left ≡ n) × ((step : Float) → leftOf step ends (now (sync .entry)) r ≡ windows step origin (kept ends origin (points (now (sync .entry)))) zero64 n) ⌝ }
 {
     let p = P { x: 0.0, y: 0.0 };
@@ -173,9 +175,9 @@ fn start(sync: &[f64], ends: P, n: u64) -> Walk
 }
 
 // The walk at the start of the next window.
-fn next_window(sync: &[f64], ends: P, k: Walk) -> Walk
-    requires { ⌜ k .last ≡ false ⌝ }
-    ensures { λ r. ⌜ (r .left ≡ k .left) × (length (restOf ends (now (sync .entry)) (k .last) (k .to) (k .next)) ≡ 1 + length (restOf ends (now (sync .entry)) (r .last) (r .to) (r .next))) × ((step : Float) → windows step (k .to) (restOf ends (now (sync .entry)) (k .last) (k .to) (k .next)) (k .s ⊖ centre (k .from) (k .to)) (k .left) ≡ leftOf step ends (now (sync .entry)) r) ⌝ }
+pub fn next_window(sync: &[f64], ends: P, k: Walk) -> Walk
+    requires { ⌜ (k .last ≡ false) × (goesOn k ≡ false) ⌝ }
+    ensures { λ r. ⌜ (r .left ≡ k .left) × (length (laterOf ends (now (sync .entry)) k) ≡ 1 + length (laterOf ends (now (sync .entry)) r)) × ((step : Float) → leftOf step ends (now (sync .entry)) k ≡ leftOf step ends (now (sync .entry)) r) ⌝ }
 {
     let from = k.to;
     let c = centre(k.from, from);
@@ -191,10 +193,9 @@ fn next_window(sync: &[f64], ends: P, k: Walk) -> Walk
     }
 }
 
-// The walk after a place in its window.
-fn stepped(k: Walk, step: f64) -> Walk
-    requires { ⌜ 0 < k .left ⌝ }
-    ensures { λ r. ⌜ r ≡ record { from = k .from; to = k .to; last = k .last; next = k .next; s = k .s ⊕ step; left = k .left - 1 } ⌝ }
+// The walk at s in its window, with at most `left` places to come.
+pub fn walk_at(k: Walk, s: f64, left: u64) -> Walk
+    ensures { λ r. ⌜ r ≡ walkAt k s left ⌝ }
 {
     let from = k.from;
     let to = k.to;
@@ -203,57 +204,23 @@ fn stepped(k: Walk, step: f64) -> Walk
         to,
         last: k.last,
         next: k.next,
-        s: k.s + step,
-        left: k.left - 1,
+        s,
+        left,
     }
 }
 
-// The place where the walk stands in its window, and the walk after it.
-fn place_of(k: Walk, step: f64) -> Found
-    requires { ⌜ goesOn k ≡ true ⌝ }
-    ensures { λ r. ⌜ ((ends : P) (sync : List Float) → leftOf step ends sync k ≡ foundOf step ends sync r) × (cond (r .found) (r .walk .left + 1) (k .left) ≡ k .left) ⌝ }
+// The walk at the end of its window.
+fn past_window(k: Walk, step: f64) -> Walk
+    ensures { λ r. ⌜ (r ≡ walkAt k (r .s) (r .left)) × (goesOn r ≡ false) × (r .left ≤ k .left) × ((ends : P) (sync : List Float) → length (leftOf step ends sync r) + k .left ≡ length (leftOf step ends sync k) + r .left) ⌝ }
 {
-    Found {
-        found: true,
-        place: place_at(k.from, k.to, k.s),
-        walk: stepped(k, step),
+    let end = window_end(k.from, k.to);
+    let mut s = k.s;
+    let mut left = k.left;
+    while goes(s, end, left) {
+        s = s + step;
+        left -= 1;
     }
-}
-
-// The next place of a walk that has come to the end of its window.
-fn later_place(sync: &[f64], ends: P, step: f64, walk: Walk) -> Found
-    ensures { λ r. ⌜ (leftOf step ends (now (sync .entry)) walk ≡ foundOf step ends (now (sync .entry)) r) × (cond (r .found) (r .walk .left + 1) (walk .left) ≡ walk .left) ⌝ }
-{
-    let mut k = walk;
-    while !goes(k) {
-        if k.last {
-            return Found {
-                found: false,
-                place: ends,
-                walk: k,
-            };
-        }
-        k = next_window(sync, ends, k);
-    }
-    place_of(k, step)
-}
-
-// The next place of the walk. Most stand in the window of the last one: only that is in a loop's own text.
-pub fn next_place(sync: &[f64], ends: P, step: f64, walk: Walk) -> Found
-    ensures { λ r. ⌜ (leftOf step ends (now (sync .entry)) walk ≡ foundOf step ends (now (sync .entry)) r) × (cond (r .found) (r .walk .left + 1) (walk .left) ≡ walk .left) ⌝ }
-{
-    if goes(walk) {
-        return place_of(walk, step);
-    }
-    later_place(sync, ends, step, walk)
-}
-
-// The first place of a pass.
-pub fn first_place(sync: &[f64], ends: P, pass: Pass) -> Found
-    ensures { λ r. ⌜ (windows (pass .step) origin (kept ends origin (points (now (sync .entry)))) zero64 (pass .n) ≡ foundOf (pass .step) ends (now (sync .entry)) r) × (cond (r .found) (r .walk .left + 1) (pass .n) ≡ pass .n) ⌝ }
-{
-    let walk = start(sync, ends, pass.n);
-    next_place(sync, ends, pass.step, walk)
+    walk_at(k, s, left)
 }
 
 // How many places a pass has.
@@ -261,12 +228,9 @@ pub fn count_places(sync: &[f64], ends: P, pass: Pass) -> u64
     requires { ⌜ pass .n < 2 ^ 63 ⌝ }
     ensures { λ r. ⌜ r ≡ length (walkPlaces ends (points (now (sync .entry))) pass) ⌝ }
 {
-    let mut f = first_place(sync, ends, pass);
-    let mut c: u64 = 1;
-    while f.found {
-        let walk = f.walk;
-        f = next_place(sync, ends, pass.step, walk);
-        c += 1;
+    let mut k = past_window(start(sync, ends, pass.n), pass.step);
+    while !k.last {
+        k = past_window(next_window(sync, ends, k), pass.step);
     }
-    c
+    pass.n - k.left + 1
 }

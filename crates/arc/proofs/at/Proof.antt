@@ -15,8 +15,8 @@ returns c = rw (eq-eqb _ _ (c .before .if1 .taken), points-at (c .before .before
 
 returns-2 : tie.Need-returns-2
 unfolding at ofBits
-returns-2 c = rw (ne-eqb _ _ (c .before .before .before .before .before .if1 .left)) (c .on-side .ensures ∙ rw (c .before .side-end .ensures .0, c .before .before .partition-point .ensures .0, c .before .before .before .clamp .ensures))
+returns-2 c = rw (ne-eqb _ _ (c .before .before .before .before .if1 .left)) (c .on-side .ensures ∙ rw (c .before .side-of .ensures .0, c .before .before .clamp .ensures))
 
 pub at-spec : {M : Type 1} → statement M
 at-spec =
-    tie.close (tie.spec (λ c κs. search needs) returns (λ c. search needs) (λ c. search needs) (λ c. search needs) (λ c κs. search needs) (λ c κs. search needs) (λ c κs. search needs) (λ c κs. search needs) returns-2)
+    tie.close (tie.spec (λ c κs. search needs) returns (λ c. search needs) (λ c. search needs) (λ c. search needs) (λ c κs. search needs) (λ c κs. search needs) (λ c κs. search needs) returns-2)

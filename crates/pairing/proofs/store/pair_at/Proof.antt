@@ -10,14 +10,14 @@ use Rattle.pairing.proofs.store.pair_at.Tie as tie
 
 along-from-requires : tie.Need-along-from-requires
 along-from-requires c κs =
-    let start = c .before .before .before .before .before .before .before .before in
+    let start = c .before .before .before .before in
     let a = start .args in
     let z : length (a .a .now) / 2 - 0 ≡ length (a .a .now) / 2 = omega arith in
     rw (z, start .pre .onA) (start .pre .railA)
 
 along-from-requires-2 : tie.Need-along-from-requires-2
 along-from-requires-2 c κs =
-    let start = c .before .before .before .before .before .before .before .before .before .before in
+    let start = c .before .before .before .before .before .before in
     let a = start .args in
     let z : length (a .a .now) / 2 + length (a .b .now) / 2 - length (a .a .now) / 2 ≡ length (a .b .now) / 2 = omega arith in
     rw (z, start .pre .onB) (start .pre .railB)
@@ -25,12 +25,12 @@ along-from-requires-2 c κs =
 returns : tie.Need-returns
 unfolding railAt
 returns c =
-    let start = c .before .before .before .before .before .before .before .before .before .before .before in
+    let start = c .before .before .before .before .before .before .before in
     let a = start .args in
     let y : length (a .a .now) / 2 - 0 ≡ length (a .a .now) / 2 = omega arith in
     let z : length (a .a .now) / 2 + length (a .b .now) / 2 - length (a .a .now) / 2 ≡ length (a .b .now) / 2 = omega arith in
-    (rw (c .before .before .along-from .ensures, c .along-from2 .ensures, y, z, start .pre .onA, start .pre .onB), rw (c .before .before .before .before .before .before .side-from .ensures, c .before .before .before .before .side-from2 .ensures, y, z, start .pre .onA, start .pre .onB))
+    rw (c .before .before .along-from .ensures, c .along-from2 .ensures, y, z, start .pre .onA, start .pre .onB)
 
 pub pair-at-spec : {M : Type 1} → statement M
 pair-at-spec =
-    tie.close (tie.spec (λ c. search needs) (λ c. search needs) (λ c. search needs) (λ c κs. search needs) (λ c. search needs) (λ c. search needs) (λ c. search needs) (λ c. search needs) (λ c. search needs) (λ c κs. search needs) (λ c. search needs) (λ c. search needs) (λ c. search needs) along-from-requires (λ c. search needs) (λ c. search needs) (λ c. search needs) (λ c. search needs) (λ c. search needs) along-from-requires-2 returns)
+    tie.close (tie.spec (λ c. search needs) (λ c. search needs) (λ c. search needs) along-from-requires (λ c. search needs) (λ c. search needs) (λ c. search needs) (λ c. search needs) (λ c. search needs) along-from-requires-2 returns)
