@@ -6,7 +6,6 @@ ghost use Rattle.satinrules.specs.Calls.{splitSewn, splitOutput, sStitchSewn, s
 pub mod matched;
 pub mod rails;
 pub mod slices;
-pub mod topping;
 pub mod underlay;
 
 use crate::matched::sewn_pairs;

@@ -14,7 +14,6 @@ use crate::rails::need;
 use crate::slices::copy;
 use crate::slices::zero;
 use limits::MOST_PAIRS;
-use pairing::places::count_places;
 use pairing::places::pass_of;
 use pairing::store::lay_pairs;
 use pairing::store::put_rails;
@@ -45,7 +44,7 @@ fn pairs_along(
             points: 0,
         };
     }
-    let n = count_places(sync, ends, pass) as usize;
+    let n = lay_pairs(work, rails, a, b, sync, ends, pass);
     if work.len() < need(a, b, sync, n) {
         zero(work);
         return Sewn {
@@ -60,7 +59,6 @@ fn pairs_along(
             points: 0,
         };
     }
-    lay_pairs(work, rails, a, b, sync, ends, pass);
     copy(out, &work[0..4 * n]);
     zero(work);
     Sewn {
