@@ -1,5 +1,5 @@
 -- What a pass of a column asks for. Definitions only.
-use Prim.Native.Nat.{ℕ, _+_, _*_}
+use Prim.Native.Nat.{ℕ, _+_, _*_, _≤_}
 use mathlib.Core.Path.{_≡_}
 use mathlib.Core.Bool.{Bool, false, not, _||_, cond}
 use mathlib.Core.List.{List, [], _++_}
@@ -7,6 +7,7 @@ use lib.ListN.{length}
 use lib.Ieee.{Float}
 use Rattle.geom.specs.declared.point.P.{P}
 use Rattle.geom.specs.Outline.{points}
+use Rattle.limits.specs.Limits.{mostPairs}
 use Rattle.satinrules.specs.declared.Pair.{Pair}
 use Rattle.satinrules.specs.declared.Satin.{Satin}
 use Rattle.satinrules.specs.Column.{turnedIf, onlyIf, bit, afterCentre}
@@ -18,11 +19,12 @@ use Rattle.passes.specs.declared.threads.Thread.{Thread}
 use Rattle.passes.specs.declared.threads.Thread.the-variants.{Middle, SideA, SideB}
 use Rattle.passes.specs.Threads.{threadOf}
 
--- the pass of n places that `step` asks for, on rails of 2 corners or more
+-- the pass of n places that `step` asks for, on rails of 2 corners or more, few enough
 pub record Fit (a b sync : List Float) (step : Float) (ends : P) (pass : Pass) (n : ℕ) : Type 0 where
   pub some : few (railsOf a b sync) ≡ false
   pub end : ends ≡ endsOf (railsOf a b [])
   pub asked : pass ≡ passOf ends (points sync) step
+  pub small : pass .n ≤ mostPairs
   pub count : n ≡ length (walkPlaces ends (points sync) pass)
 
 -- whether the pass by run_len is sewn: for the centre, for the contour, or for both

@@ -41,7 +41,7 @@ fn lay_if(
     ends: P,
     pass: Pass,
 )
-    requires { ⌜ Laid (now a) (now b) (now rails) × (sewn ≡ true → pass .n < 2 ^ 59) ⌝ }
+    requires { ⌜ Laid (now a) (now b) (now rails) × (sewn ≡ true → (pass .n ≤ 65536) × (4 * length (walkPlaces ends (points (now sync)) pass) ≤ length (now work))) ⌝ }
     ensures { λ _. ⌜ (length (now (work .exit)) ≡ length (now (work .entry))) × (sewn ≡ true → take (4 * length (walkPlaces ends (points (now (sync .entry))) pass)) (now (work .exit)) ≡ storedPairs (now (a .entry)) (now (b .entry)) (now (sync .entry)) (walkPlaces ends (points (now (sync .entry))) pass)) ⌝ }
 {
     if sewn {

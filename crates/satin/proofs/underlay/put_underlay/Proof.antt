@@ -20,7 +20,7 @@ use Rattle.satin.proofs.underlay.put_underlay.Statement.{statement}
 use Rattle.satin.proofs.underlay.put_underlay.Tie as tie
 
 lay-if-requires : tie.Need-lay-if-requires
-lay-if-requires c κs = (c .before .before .before .before .before .before .before .before .before .pre .0, λ t. omega (arith, c .before .before .before .before .before .before .before .before .before .pre .3, c .before .before .before .before .before .before .before .before .before .pre .1 (sym (c .before .runs .ensures) ∙ t) .count))
+lay-if-requires c κs = (c .before .before .before .before .before .before .before .before .before .pre .0, λ t. let f = c .before .before .before .before .before .before .before .before .before .pre .1 (sym (c .before .runs .ensures) ∙ t) in (f .small, omega (arith, c .before .before .before .before .before .before .before .before .before .pre .3, f .count)))
 
 mul-put-runs : tie.Need-mul-put-runs
 mul-put-runs c = omega (arith, c .before .before .before .before .before .before .before .before .before .before .before .before .before .pre .3, c .before .before .before .before .before .before .before .before .before .before .before .before .before .good)
@@ -41,7 +41,7 @@ put-runs-requires c κs =
     rw y (omega (arith, c .before .before .before .before .before .before .before .before .before .before .before .before .before .before .before .pre .5, ap length all, length-append (runsOver (a .g) qs) over))
 
 lay-if-requires-2 : tie.Need-lay-if-requires-2
-lay-if-requires-2 c κs = (c .before .before .before .before .before .before .before .before .before .before .before .before .before .before .before .before .before .before .before .pre .0, λ t. omega (arith, c .before .before .before .before .before .before .before .before .before .before .before .before .before .before .before .before .before .before .before .pre .4, c .before .before .before .before .before .before .before .before .before .lay-if .ensures .0, c .before .before .before .before .before .before .before .before .before .before .before .before .before .before .before .before .before .before .before .pre .2 t .count))
+lay-if-requires-2 c κs = (c .before .before .before .before .before .before .before .before .before .before .before .before .before .before .before .before .before .before .before .pre .0, λ t. let f = c .before .before .before .before .before .before .before .before .before .before .before .before .before .before .before .before .before .before .before .pre .2 t in (f .small, omega (arith, c .before .before .before .before .before .before .before .before .before .before .before .before .before .before .before .before .before .before .before .pre .4, c .before .before .before .before .before .before .before .before .before .lay-if .ensures .0, f .count)))
 
 mul-put-if : tie.Need-mul-put-if
 mul-put-if c = omega (arith, c .before .before .before .before .before .before .before .before .before .before .before .before .before .before .before .before .before .before .before .before .before .before .before .pre .4, c .before .before .before .before .before .before .before .before .before .before .before .before .before .before .before .before .before .before .before .before .before .before .before .good)
