@@ -24,13 +24,14 @@ use Rattle.satinrules.specs.Pairs.{endsOf, few, pairs}
 use Rattle.satinrules.specs.Column.{spacingOf, stitches, underlay, top, column}
 use Rattle.satinrules.specs.Calls.{railsOf, passSteps, sized, most, mostOf, need, worked}
 use Rattle.satin.specs.Underlay.{underlayCount}
-use Rattle.satin.specs.UnderlayLaws.{underlay-count, run-size}
+use Rattle.passes.specs.Threads.{pairsIn}
+use Rattle.satin.specs.UnderlayLaws.{underlay-count, run-size, fit-laid, fit-stitches}
 use Rattle.column.specs.declared.sized.Passes.{Passes}
-use Rattle.column.specs.Sized.{sizedAt, passesOf, mostIn}
+use Rattle.column.specs.Sized.{sizedAt, passesOf, mostIn, topLaid}
 use Rattle.column.specs.SizedLaws.{most-left, most-right, most-small, run-fit, zigzag-fit, top-fit, run-room, zigzag-room, top-room, answer-size, answer-work, answer-fitted}
 use Rattle.column.specs.Topping.{topOf}
 use Rattle.column.specs.ToppingLaws.{top-is}
-use Rattle.column.specs.Halves.{Ready, topPath, columnPassed}
+use Rattle.column.specs.Halves.{Ready, pathIn, topPath, columnPassed}
 
 -- ---- what is asked for
 
@@ -40,9 +41,9 @@ pub ready : (a b sync : List Float) (g : Satin) {ends : P} (e : ends ≡ endsOf 
 ready a b sync g {ends} e some {p} f ok work h =
     let small : mostIn p ≤ 65537 = rw f (most-small ends (points sync) g ok) in
     record {
-      run = run-fit a b sync g e some f;
-      zigzag = zigzag-fit a b sync g e some f;
-      top = top-fit a b sync g e some f;
+      run = run-fit a b sync g e some f ok;
+      zigzag = zigzag-fit a b sync g e some f ok;
+      top = top-fit a b sync g e some f ok;
       smallN = omega (arith, small, most-left (p .n) (p .m), most-left (most (p .n) (p .m)) (p .t));
       smallM = omega (arith, small, most-right (p .n) (p .m), most-left (most (p .n) (p .m)) (p .t));
       smallT = omega (arith, small, most-right (most (p .n) (p .m)) (p .t));
@@ -53,6 +54,12 @@ ready a b sync g {ends} e some {p} f ok work h =
 
 pub ready-same : {a b sync : List Float} {g : Satin} {ends : P} {p : Passes} {n m : ℕ} → Ready a b sync g ends p n → m ≡ n → Ready a b sync g ends p m
 ready-same w e = rw e w
+
+-- the top's stitches go over the pairs that were laid, and stand behind them
+pub stitched : {a b sync : List Float} {g : Satin} {ends : P} {p : Passes} (d y : List Float) → Ready a b sync g ends p (length d) → topLaid a b sync ends p d → y ≡ put d (4 * p .t) (flat (stitches g (pairsIn (points (take (4 * p .t) d))))) → (length y ≡ length d) × (pathIn p y ≡ topPath a b sync g)
+stitched {g = g} {p = p} d y w l e =
+    let q = fit-laid (w .top) d (ap (λ (k : ℕ). take (4 * k) d) (sym (w .top .count)) ∙ l) in
+    fit-stitches (w .top) g d y (w .roomT) (e ∙ ap (λ qs. put d (4 * p .t) (flat (stitches g qs))) q)
 
 -- a part of n numbers, as it is lent
 pub lent-path : (from n : ℕ) (w m : List Float) → take n (drop from w) ≡ m → take (from + n - from) (drop from w) ≡ m

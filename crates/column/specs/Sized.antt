@@ -1,12 +1,14 @@
 -- The passes of a column: which are sewn, and what SIZE and N are worked out from. Definitions only.
-use Prim.Native.Nat.{ℕ}
+use Prim.Native.Nat.{ℕ, _*_}
+use mathlib.Core.Path.{_≡_}
 use mathlib.Core.Bool.{Bool, cond}
 use mathlib.Core.List.{List}
 use lib.Dec.{leb}
-use lib.ListN.{length}
+use lib.ListN.{length, take}
 use lib.Ieee.{Float}
 use Rattle.seqs.specs.Lists.{every}
 use Rattle.geom.specs.declared.point.P.{P}
+use Rattle.geom.specs.Outline.{points}
 use Rattle.limits.specs.Limits.{mostPairs}
 use Rattle.satinrules.specs.declared.Satin.{Satin}
 use Rattle.satinrules.specs.Settings.{zigzagUnderlaySpacing}
@@ -15,6 +17,7 @@ use Rattle.satinrules.specs.Column.{bit, spacingOf}
 use Rattle.satinrules.specs.Calls.{most}
 use Rattle.pairing.specs.declared.places.Pass.{Pass}
 use Rattle.pairing.specs.Walk.{passOf, walkPlaces}
+use Rattle.pairing.specs.Store.{storedPairs}
 use Rattle.satin.specs.Underlay.{runs}
 use Rattle.column.specs.declared.sized.Passes.{Passes}
 
@@ -37,3 +40,7 @@ passesOf ends sync g =
 -- N
 abbrev pub mostIn : Passes → ℕ
 mostIn p = most (most (p .n) (p .m)) (p .t)
+
+-- the top's pairs stand at the front of the working slice
+abbrev pub topLaid : List Float → List Float → List Float → P → Passes → List Float → Type 0
+topLaid a b sync ends p w = take (4 * p .t) w ≡ storedPairs a b sync (walkPlaces ends (points sync) (p .top))

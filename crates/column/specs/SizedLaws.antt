@@ -128,30 +128,30 @@ module _ (a b sync : List Float) (g : Satin) {ends : P} (e : ends ≡ endsOf (ra
   sized-is ss = rw e
 
   module _ (some : few (railsOf a b sync) ≡ false) where
-    fitted-pass : (step : Float) → Fit a b sync step ends (passOf ends (points sync) step) (length (walkPlaces ends (points sync) (passOf ends (points sync) step)))
-    fitted-pass step = record { some = some; end = e; asked = refl; count = refl }
+    fitted-pass : (step : Float) → passOf ends (points sync) step .n ≤ mostPairs → Fit a b sync step ends (passOf ends (points sync) step) (length (walkPlaces ends (points sync) (passOf ends (points sync) step)))
+    fitted-pass step h = record { some = some; end = e; asked = refl; small = h; count = refl }
 
-    only-count : (sewn : Bool) (step : Float) → cond sewn (length (pairs (railsOf a b sync) step)) 0 ≡ placesIf sewn ends (points sync) (passOf ends (points sync) step)
-    only-count true step = fit-count (fitted-pass step)
-    only-count false step = refl
+    only-count : (sewn : Bool) (step : Float) → (sewn ≡ true → passOf ends (points sync) step .n ≤ mostPairs) → cond sewn (length (pairs (railsOf a b sync) step)) 0 ≡ placesIf sewn ends (points sync) (passOf ends (points sync) step)
+    only-count true step h = fit-count (fitted-pass step (h refl))
+    only-count false step h = refl
 
-    module _ {p : Passes} (f : p ≡ passesOf ends (points sync) g) where
+    module _ {p : Passes} (f : p ≡ passesOf ends (points sync) g) (ok : sizedAt ends (points sync) (passSteps g) ≡ true) where
       pub run-fit : runs g ≡ true → Fit a b sync (g .«run_len») ends (p .run) (p .n)
       unfolding passesOf
-      run-fit h = rw (f, h) (fitted-pass (g .«run_len»))
+      run-fit h = rw (f, h) (fitted-pass (g .«run_len») (run-sized ends (points sync) g ok h))
 
       pub zigzag-fit : bit g 4 ≡ true → Fit a b sync zigzagUnderlaySpacing ends (p .zigzag) (p .m)
       unfolding passesOf
-      zigzag-fit h = rw (f, h) (fitted-pass zigzagUnderlaySpacing)
+      zigzag-fit h = rw (f, h) (fitted-pass zigzagUnderlaySpacing (zigzag-sized ends (points sync) g ok h))
 
       pub top-fit : Fit a b sync (spacingOf g) ends (p .top) (p .t)
       unfolding passesOf
-      top-fit = rw f (fitted-pass (spacingOf g))
+      top-fit = rw f (fitted-pass (spacingOf g) (top-sized ends (points sync) g ok))
 
       -- N is the most of them
       pub most-is : mostOf (railsOf a b sync) (passSteps g) ≡ mostIn p
       unfolding passSteps passesOf
-      most-is = rw (f, ← only-count (runs g) (g .«run_len»), ← only-count (bit g 4) zigzagUnderlaySpacing, ← fit-count (fitted-pass (spacingOf g))) (most-three (railsOf a b sync) (runs g) (bit g 4) (g .«run_len») zigzagUnderlaySpacing (spacingOf g))
+      most-is = rw (f, ← only-count (runs g) (g .«run_len») (run-sized ends (points sync) g ok), ← only-count (bit g 4) zigzagUnderlaySpacing (zigzag-sized ends (points sync) g ok), ← fit-count (fitted-pass (spacingOf g) (top-sized ends (points sync) g ok))) (most-three (railsOf a b sync) (runs g) (bit g 4) (g .«run_len») zigzagUnderlaySpacing (spacingOf g))
 
 -- a slice of the need holds the pairs of each pass, twice
 module _ (a b sync : List Float) (p : Passes) (work : ℕ) (h : need (railsOf a b sync) (mostIn p) ≤ work) where

@@ -10,6 +10,7 @@ ghost use Rattle.satinrules.specs.Pairs.{few};
 ghost use Rattle.satinrules.specs.Column.{column};
 ghost use Rattle.satinrules.specs.Calls.{railsOf, worked};
 ghost use Rattle.pairing.specs.Store.{Laid, Sound};
+ghost use Rattle.column.specs.Sized.{topLaid};
 ghost use Rattle.column.specs.Halves.{Ready, pathIn, topPath, columnPassed};
 use crate::sized::Passes;
 use crate::sized::column_most;
@@ -20,6 +21,7 @@ use crate::topping::put_top;
 use geom::P;
 use geom::sewing::add_within;
 use pairing::store::put_rails;
+use passes::top::put_stitches;
 use refusal::DONE;
 use refusal::ROOM;
 use refusal::SIZE;
@@ -29,15 +31,13 @@ use satin::rails::BOTH_RAILS;
 use satin::rails::ends_of;
 use satin::rails::need;
 use satin::slices::zero;
-use satin::topping::lay_top;
 use satin::underlay::count_underlay;
 use satin::underlay::put_underlay;
 use satinrules::Satin;
 
-// How many points both halves have, or room + 1 where they pass the room. The top's stitches stand in the working slice from then on.
+// How many points both halves have, or room + 1 where they pass the room. The top's stitches stand in the working slice from then on, behind the pairs they go over.
 pub fn count_halves(
     work: &mut [f64],
-    rails: &[f64],
     a: &[f64],
     b: &[f64],
     sync: &[f64],
@@ -46,11 +46,10 @@ pub fn count_halves(
     g: Satin,
     room: u64,
 ) -> u64
-    requires { ⌜ Laid (now a) (now b) (now rails) × Ready (now a) (now b) (now sync) g ends p (length (now work)) × (room < 2 ^ 63) ⌝ }
+    requires { ⌜ Ready (now a) (now b) (now sync) g ends p (length (now work)) × topLaid (now a) (now b) (now sync) ends p (now work) × (room < 2 ^ 63) ⌝ }
     ensures { λ r. ⌜ (r ≡ capped room (length (column (railsOf (now (a .entry)) (now (b .entry)) (now (sync .entry))) g))) × (length (now (work .exit)) ≡ length (now (work .entry))) × (pathIn p (now (work .exit)) ≡ topPath (now (a .entry)) (now (b .entry)) (now (sync .entry)) g) ⌝ }
 {
-    let top = p.top;
-    lay_top(work, rails, a, b, sync, ends, top, p.t, g);
+    put_stitches(work, p.t, g);
     let from = 4 * p.t;
     let points = count_top(&work[from..from + 4 * p.t], g, room);
     add_within(points, count_underlay(p.n, p.m, g) as u64, room)
@@ -91,11 +90,11 @@ pub fn sew_halves(
     p: Passes,
     g: Satin,
 ) -> Sewn
-    requires { ⌜ Laid (now a) (now b) (now rails) × Ready (now a) (now b) (now sync) g ends p (length (now work)) ⌝ }
+    requires { ⌜ Laid (now a) (now b) (now rails) × Ready (now a) (now b) (now sync) g ends p (length (now work)) × topLaid (now a) (now b) (now sync) ends p (now work) ⌝ }
     ensures { λ r. ⌜ (r ≡ sewn (fitted (column (railsOf (now (a .entry)) (now (b .entry)) (now (sync .entry))) g) (length (now (out .entry)))) (length (column (railsOf (now (a .entry)) (now (b .entry)) (now (sync .entry))) g))) × (now (out .exit) ≡ output (fitted (column (railsOf (now (a .entry)) (now (b .entry)) (now (sync .entry))) g) (length (now (out .entry)))) (flat (column (railsOf (now (a .entry)) (now (b .entry)) (now (sync .entry))) g)) (now (out .entry))) × (length (now (work .exit)) ≡ length (now (work .entry))) ⌝ }
 {
     let room = (out.len() / 2) as u64;
-    let points = count_halves(work, rails, a, b, sync, ends, p, g, room);
+    let points = count_halves(work, a, b, sync, ends, p, g, room);
     if points > room {
         return Sewn {
             answer: ROOM,
@@ -129,7 +128,7 @@ fn column_along(
             points: 0,
         };
     }
-    let p = passes_of(sync, ends, g);
+    let p = passes_of(work, rails, a, b, sync, ends, g);
     if work.len() < need(a, b, sync, column_most(p)) {
         zero(work);
         return Sewn {

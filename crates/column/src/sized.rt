@@ -2,16 +2,19 @@
 ghost use mathlib.Core.Path.{_≡_};
 ghost use mathlib.Core.Bool.{true};
 ghost use mathlib.Core.List.{[], _∷_};
-ghost use Prim.Native.Nat.{_≤_};
+ghost use Prim.Native.Nat.{_*_, _≤_};
+ghost use lib.ListN.{length};
 ghost use Rattle.geom.specs.Outline.{points};
 ghost use Rattle.satinrules.specs.Column.{onlyIf};
 ghost use Rattle.satinrules.specs.Calls.{passSteps, most};
-ghost use Rattle.column.specs.Sized.{sizedAt, placesIf, passesOf, mostIn};
+ghost use Rattle.pairing.specs.Store.{Laid};
+ghost use Rattle.column.specs.Sized.{sizedAt, placesIf, passesOf, mostIn, topLaid};
 use geom::P;
 use limits::MOST_PAIRS;
 use pairing::places::Pass;
 use pairing::places::count_places;
 use pairing::places::pass_of;
+use pairing::store::lay_pairs;
 use passes::top::spaced;
 use satin::underlay::runs;
 use satinrules::Satin;
@@ -63,10 +66,18 @@ fn places_if(sewn: bool, sync: &[f64], ends: P, pass: Pass) -> usize
     0
 }
 
-// The three passes, each that is sewn with its places counted.
-pub fn passes_of(sync: &[f64], ends: P, g: Satin) -> Passes
-    requires { ⌜ sizedAt ends (points (now sync)) (passSteps g) ≡ true ⌝ }
-    ensures { λ r. ⌜ r ≡ passesOf ends (points (now (sync .entry))) g ⌝ }
+// The three passes, each that is sewn with its places counted. The top's pairs are laid as they are counted, as far as the working slice has room: most columns are mostly top.
+pub fn passes_of(
+    work: &mut [f64],
+    rails: &[f64],
+    a: &[f64],
+    b: &[f64],
+    sync: &[f64],
+    ends: P,
+    g: Satin,
+) -> Passes
+    requires { ⌜ Laid (now a) (now b) (now rails) × (sizedAt ends (points (now sync)) (passSteps g) ≡ true) ⌝ }
+    ensures { λ r. ⌜ (r ≡ passesOf ends (points (now (sync .entry))) g) × (length (now (work .exit)) ≡ length (now (work .entry))) × (4 * r .t ≤ length (now (work .entry)) → topLaid (now (a .entry)) (now (b .entry)) (now (sync .entry)) ends r (now (work .exit))) ⌝ }
 {
     let style = g.style;
     let run = pass_of(sync, ends, g.run_len);
@@ -74,7 +85,7 @@ pub fn passes_of(sync: &[f64], ends: P, g: Satin) -> Passes
     let zigzag = pass_of(sync, ends, Satin::ZIGZAG_UNDERLAY_SPACING);
     let m = places_if(g.underlay / 4 % 2 == 1, sync, ends, zigzag);
     let top = pass_of(sync, ends, spaced(style, g.spacing));
-    let t = places_if(true, sync, ends, top);
+    let t = lay_pairs(work, rails, a, b, sync, ends, top);
     Passes {
         run,
         n,

@@ -1,4 +1,6 @@
-use mathlib.Core.Path.{sym, _∙_}
+-- `passes_of` meets its contract: each pass is what its step asks for, and the top's pairs are laid as they are counted. Assumes nothing.
+use mathlib.Core.Path.{_≡_, sym, ap, _∙_}
+use native.Mathlib.Omega.{arith}
 use lib.Ieee.{ofBits, round}
 use Rattle.numbers.specs.Num.{literal}
 use Rattle.geom.specs.Outline.{points}
@@ -11,25 +13,29 @@ use Rattle.column.proofs.sized.passes_of.Tie as tie
 
 places-if-requires : tie.Need-places-if-requires
 places-if-requires c κs =
-    let a = c .before .before .before .args in
-    λ h. rw (c .before .pass-of .ensures) (run-sized (a .ends) (points (a .sync .now)) (a .g) (c .before .before .before .pre) (sym (c .runs .ensures) ∙ h))
+    let a = c .before .before .before .before .before .before .before .args in
+    λ h. rw (c .before .pass-of .ensures) (run-sized (a .ends) (points (a .sync .now)) (a .g) (c .before .before .before .before .before .before .before .pre .1) (sym (c .runs .ensures) ∙ h))
 
 places-if-requires-2 : tie.Need-places-if-requires-2
 unfolding zigzagUnderlaySpacing literal round ofBits
 places-if-requires-2 c κs =
-    let a = c .before .before .before .before .before .before .args in
-    λ h. rw (c .before .pass-of2 .ensures) (zigzag-sized (a .ends) (points (a .sync .now)) (a .g) (c .before .before .before .before .before .before .pre) h)
+    let a = c .before .before .before .before .before .before .before .before .before .before .args in
+    λ h. rw (c .before .pass-of2 .ensures) (zigzag-sized (a .ends) (points (a .sync .now)) (a .g) (c .before .before .before .before .before .before .before .before .before .before .pre .1) h)
 
-places-if-requires-3 : tie.Need-places-if-requires-3
-places-if-requires-3 c κs =
-    let a = c .before .before .before .before .before .before .before .before .before .args in
-    λ h. rw (c .pass-of3 .ensures, c .before .spaced .ensures) (top-sized (a .ends) (points (a .sync .now)) (a .g) (c .before .before .before .before .before .before .before .before .before .pre))
+lay-pairs-requires : tie.Need-lay-pairs-requires
+lay-pairs-requires c κs =
+    let a = c .before .before .before .before .before .before .before .before .before .before .before .before .before .before .args in
+    (c .before .before .before .before .before .before .before .before .before .before .before .before .before .before .pre .0, rw (c .before .pass-of3 .ensures, c .before .before .spaced .ensures) (omega (arith, top-sized (a .ends) (points (a .sync .now)) (a .g) (c .before .before .before .before .before .before .before .before .before .before .before .before .before .before .pre .1))))
+
+same-length : tie.Need-same-length
+same-length c = c .before .before .lay-pairs .ensures .1
 
 returns : tie.Need-returns
 unfolding passesOf zigzagUnderlaySpacing literal round ofBits
 returns c =
-    rw (c .before .before .before .before .before .before .places-if .ensures, c .before .before .before .places-if2 .ensures, c .places-if3 .ensures, c .before .before .before .before .before .before .before .runs .ensures, c .before .before .before .before .before .before .before .before .pass-of .ensures, c .before .before .before .before .before .pass-of2 .ensures, c .before .pass-of3 .ensures, c .before .before .spaced .ensures)
+    let l = c .before .before .lay-pairs .ensures in
+    (rw (c .before .before .before .before .before .before .before .before .before .places-if .ensures, c .before .before .before .before .before .before .places-if2 .ensures, l .0, c .before .before .before .before .before .before .before .before .before .before .runs .ensures, c .before .before .before .before .before .before .before .before .before .before .before .pass-of .ensures, c .before .before .before .before .before .before .before .before .pass-of2 .ensures, c .before .before .before .before .pass-of3 .ensures, c .before .before .before .before .before .spaced .ensures), l .1, l .2)
 
 pub passes-of-spec : {M : Type 1} → statement M
 passes-of-spec =
-    tie.close (tie.spec (λ c κs. search needs) (λ c κs. search needs) places-if-requires (λ c κs. search needs) places-if-requires-2 (λ c κs. search needs) (λ c κs. search needs) places-if-requires-3 returns)
+    tie.close (tie.spec (λ c κs. search needs) (λ c κs. search needs) places-if-requires (λ c κs. search needs) places-if-requires-2 (λ c κs. search needs) (λ c κs. search needs) lay-pairs-requires same-length returns)
