@@ -15,6 +15,8 @@ use std::process::ExitCode;
 
 const USAGE: &str = "usage: oracle compare NAME [--seed S] [--count N]
        oracle bench [NAME] [--seed S]
+       oracle labels [NAME]
+       oracle once LABEL [--seed S]
        oracle replay NAME
 NAME is a function, a group or `all`.";
 
@@ -48,6 +50,16 @@ fn run(words: &[String]) -> Result<bool, String> {
             for function in named(name.map_or("all", String::as_str))? {
                 function.bench(seed);
             }
+            Ok(true)
+        }
+        (Some("labels"), name) => {
+            for function in named(name.map_or("all", String::as_str))? {
+                function.labels().for_each(|label| println!("{label}"));
+            }
+            Ok(true)
+        }
+        (Some("once"), Some(label)) => {
+            named("all")?.iter().for_each(|f| f.once(label, seed));
             Ok(true)
         }
         (Some("replay"), Some(name)) => {

@@ -15,6 +15,7 @@ pub mod stroke;
 use crate::rng::Rng;
 use std::collections::{BTreeMap, BinaryHeap};
 use std::hint::black_box;
+use std::rc::Rc;
 use std::time::Instant;
 
 /// How many differences of a function are kept (the smallest), and printed.
@@ -56,10 +57,12 @@ pub struct Function {
     benches: Vec<Bench>,
 }
 
-/// What to time: its label, and the timing of inputs drawn from a random source.
+/// What to time: its label, the timing of inputs drawn from a random source, and
+/// one go over them by each side, for counting instructions.
 struct Bench {
     label: String,
     run: Box<dyn Fn(&mut Rng) -> Timing>,
+    once: Box<dyn Fn(&mut Rng)>,
 }
 
 /// A named tie: the calls that the Rust leaves open, and what document 01 says there.
@@ -134,10 +137,18 @@ impl Function {
         rust: impl Fn(&I) -> A + 'static,
         ours: impl Fn(&I) -> B + 'static,
     ) -> Function {
-        let run = move |rng: &mut Rng| time(&inputs(rng), &rust, &ours);
+        let sides = Rc::new((inputs, rust, ours));
+        let both = sides.clone();
+        let run = move |rng: &mut Rng| time(&both.0(rng), &both.1, &both.2);
+        let once = move |rng: &mut Rng| {
+            let inputs = sides.0(rng);
+            rust_once(&inputs, &sides.1);
+            ours_once(&inputs, &sides.2);
+        };
         self.benches.push(Bench {
             label,
             run: Box::new(run),
+            once: Box::new(once),
         });
         self
     }
@@ -161,6 +172,17 @@ impl Function {
         let equal = report.differing == 0;
         report.print();
         equal
+    }
+
+    pub fn labels(&self) -> impl Iterator<Item = &str> {
+        self.benches.iter().map(|b| b.label.as_str())
+    }
+
+    /// Goes once over the inputs of the benchmark of this label, by each side.
+    pub fn once(&self, label: &str, seed: u64) {
+        for bench in self.benches.iter().filter(|b| b.label == label) {
+            (bench.once)(&mut Rng::new(seed, self.name));
+        }
     }
 
     pub fn bench(&self, seed: u64) {
@@ -290,6 +312,17 @@ fn time<I, A, B>(inputs: &[I], rust: impl Fn(&I) -> A, ours: impl Fn(&I) -> B) -
 #[inline(never)]
 fn called<I, A>(rust: &impl Fn(&I) -> A, input: &I) -> A {
     rust(input)
+}
+
+/// By these two names `oracle/instructions` finds what each side takes.
+#[inline(never)]
+fn rust_once<I, A>(inputs: &[I], rust: &impl Fn(&I) -> A) {
+    round(inputs, rust, 1);
+}
+
+#[inline(never)]
+fn ours_once<I, A>(inputs: &[I], ours: &impl Fn(&I) -> A) {
+    round(inputs, ours, 1);
 }
 
 /// How often to go over the inputs so that a round takes some milliseconds.
