@@ -108,10 +108,10 @@ place-one (place.Refused m) (place.Refused n) e = ap place.Refused (refused-one 
 
 -- ---- parts of an outcome, each said by an equation
 
-abbrev both : {A B : Type 0} {x y : A × B} → x .0 ≡ y .0 → x .1 ≡ y .1 → x ≡ y
+abbrev pub both : {A B : Type 0} {x y : A × B} → x .0 ≡ y .0 → x .1 ≡ y .1 → x ≡ y
 both p q = λ i. (p i, q i)
 
-abbrev one : {A : Type 0} {x a a′ : A} → a ≡ x → a′ ≡ x → a ≡ a′
+abbrev pub one : {A : Type 0} {x a a′ : A} → a ≡ x → a′ ≡ x → a ≡ a′
 one p q = p ∙ sym q
 
 -- ---- the numbers
