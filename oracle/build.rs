@@ -1,7 +1,7 @@
 //! Where the proved library lies: the folder in BEAHCEROT_LIB that holds
 //! libexports.a, by default ../target/staticlib; a relative path is read from
 //! this package's folder. `src/ours.rs` asks for the archive by name, so only
-//! the driver needs it; the original builds and is tested without.
+//! the driver needs it; the original builds without.
 
 use std::env;
 use std::path::PathBuf;
