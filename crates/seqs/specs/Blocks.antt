@@ -5,12 +5,11 @@ use Prim.Native.Nat.{ℕ, zero, suc, _+_, _*_, _≤_, _<_}
 use native.Mathlib.Nat.{mul-zero, mul-le-mul-left}
 use native.Mathlib.Omega.{arith}
 use lib.ListN.{length, getD, take, drop, set, List·getD-eq-default}
-use lib.Seq.{length-take-le, drop-drop, drop-cons, take-at, drop-at, take-set-lt, take-set-le, drop-set-lt, drop-set-add}
+use lib.Seq.{drop-drop, drop-cons, take-at, drop-at, take-set-lt, take-set-le, drop-set-lt, drop-set-add}
 use Rattle.seqs.specs.Lists.{each}
-use Rattle.seqs.specs.Slices.{Wrote, readsFrom, reads, blocks}
+use Rattle.seqs.specs.Slices.{readsFrom, reads, blocks}
 use Rattle.seqs.specs.Front.{next}
 use Rattle.seqs.specs.Reads.{part-on, take-on}
-use Rattle.seqs.specs.Each.{each-length}
 
 -- a part that lies within the list, as the code reads it
 module _ {ℓ} {A : Type ℓ} (l : List A) (z : A) where
@@ -79,13 +78,3 @@ module _ {ℓ κ} {A : Type ℓ} {B : Type κ} (w : ℕ) (dec : List A → B) wh
     blocks-back [] rest = refl
     blocks-back (b ∷ bs) rest =
         rw (append-assoc (enc b) (each enc bs) rest, take-at (enc b) (each enc bs ++ rest) w (width b), drop-at (enc b) (each enc bs ++ rest) w (width b), back b, blocks-back bs rest)
-
-    -- records appended to a table of n
-    pub blocks-wrote : (n : ℕ) (bs : List B) {d d′ : List A} → Wrote d d′ (w * n) (each enc bs) → w * n + w * length bs ≤ length d → blocks w dec (n + length bs) d′ ≡ blocks w dec n d ++ bs
-    blocks-wrote n bs {d} {d′} r h =
-        let s = each-length enc w width bs in
-        let e = r .is (omega arith) ∙ append-assoc (take (w * n) d) (each enc bs) (drop (w * n + length (each enc bs)) d) in
-        let f = ap (drop (w * n)) e ∙ drop-at (take (w * n) d) (each enc bs ++ drop (w * n + length (each enc bs)) d) (w * n) (length-take-le (w * n) d (omega arith)) in
-        blocks-more n (length bs) d′
-        ∙ (λ i. blocks-kept n (w * n) d′ d (omega arith) (r .kept) i ++ blocks w dec (length bs) (f i))
-        ∙ ap (λ x. blocks w dec n d ++ x) (blocks-back bs (drop (w * n + length (each enc bs)) d))

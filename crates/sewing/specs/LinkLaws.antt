@@ -3,13 +3,11 @@ use Prim.Native.Nat.{ℕ, zero, suc, _+_, _-_, _≤_, _<_}
 use native.Mathlib.Omega.{arith}
 use mathlib.Core.Path.{_≡_, refl, sym, ap, _∙_}
 use mathlib.Core.Logic.{inl, inr}
-use mathlib.Core.List.{List, [], _∷_, _++_, map}
-use lib.Dec.{ltb, eqb}
-use lib.ListN.{length, take, drop, getD, length-map, length-drop, drop-of-length-le}
+use mathlib.Core.List.{List, [], _∷_, map}
+use lib.Dec.{eqb}
+use lib.ListN.{length, drop, getD, length-drop}
 use lib.Seq.{drop-drop, drop-nil, getD-drop}
-use lib.IntN.{pos}
-use lib.Ieee.{nan}
-use borrow.Author.Tests.{eqb-true, eq-eqb, ltb-true, ltb-false}
+use borrow.Author.Tests.{eqb-true, eq-eqb}
 use Rattle.seqs.specs.Tests.{either}
 use Rattle.seqs.specs.Front.{next}
 use Rattle.rules.specs.declared.Entry.{Entry}
@@ -83,11 +81,7 @@ module _ (es : List Entry) where
   next-section s j e h q =
       let n : getD numbers j 0 ≡ s = number-at j e h ∙ q in
       rw (h, eq-eqb (e .section) s q) (ap (λ l. e ∷ l) (rw n (jump s (j + 1))))
-
   -- ---- the theorem: first, next, next .. meets the pieces of section s, in order
-  section-none : (s j : ℕ) → length es ≤ j → section (drop j es) s ≡ []
-  unfolding section
-  section-none s j h = rw (drop-of-length-le es h)
 
 pub first-on : (ns : List ℕ) (s : ℕ) → firstOf ns s < length ns → getD ns (firstOf ns s) 0 ≡ s
 unfolding firstOf
@@ -113,32 +107,3 @@ module _ (ns : List ℕ) (j : ℕ) (h : j < length ns) where
       let t = seek (getD ns j 0) (j + 1) m in
       let z : j + 1 + (t - (j + 1)) ≡ t = omega (arith, seek-low (getD ns j 0) (j + 1) m) in
       rw z at (sym (getD-drop (j + 1) ns (t - (j + 1)) 0)) ∙ seek-is (getD ns j 0) (j + 1) m (omega (arith, length-drop (j + 1) ns))
-
-pub walk-section : (es : List Entry) (s : ℕ) → walk es (length es) (firstOf (map (λ e. e .section) es) s) ≡ section es s
-unfolding walk nextOf
-walk-section es s = go (length es) (firstOf ns s) (omega arith) (first-on ns s) ∙ sym (first-section es s)
-  where
-    ns : List ℕ
-    ns = map (λ e. e .section) es
-
-    size : length ns ≡ length es
-    size = length-map es (λ e. e .section)
-
-    go : (n j : ℕ) → length es ≤ j + n → (j < length ns → getD ns j 0 ≡ s) → walk es n j ≡ section (drop j es) s
-    go zero j h on = sym (section-none es s j (omega arith))
-    go (suc n) j h on = elim (either (ltb j (length es))) [
-      | inl t ↦
-          let l : j < length es = ltb-true j (length es) t in
-          let e = getD es j (record { piece = record { k = pos 0; y = nan; xa = nan; xb = nan }; section = 0; nth = 0 }) in
-          let d : drop j es ≡ e ∷ drop (j + 1) es = next es j _ l in
-          let q : e .section ≡ s = sym (number-at es j e d) ∙ on (omega (arith, size)) in
-          let r = go n (nextOf ns j) (omega (arith, next-low ns j (omega (arith, size)))) (λ k. next-on ns j (omega (arith, size)) k ∙ on (omega (arith, size))) in
-          ap (λ m. take 1 m ++ walk es n (nextOf ns j)) d ∙ ap (λ m. e ∷ m) r ∙ sym (next-section es s j e d q)
-      | inr t ↦
-          let l : length es ≤ j = ltb-false j (length es) t in
-          let b : j + 1 ≤ nextOf ns j = seek-low (getD ns j 0) (j + 1) (drop (j + 1) ns) in
-          ap (λ m. take 1 m ++ walk es n (nextOf ns j)) (drop-of-length-le es l)
-          ∙ go n (nextOf ns j) (omega arith) (λ k. absurd (omega (arith, size)))
-          ∙ section-none es s (nextOf ns j) (omega arith)
-          ∙ sym (section-none es s j l)
-    ]

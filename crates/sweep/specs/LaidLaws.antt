@@ -6,12 +6,11 @@ use mathlib.Core.Bool.{Bool}
 use mathlib.Core.Logic.{_⊎_, inl, inr}
 use mathlib.Core.List.{List, [], _∷_, _++_, map, append-assoc}
 use lib.IntN.{ℤ}
-use lib.ListN.{length, take, drop, getD, replicate, length-append, length-replicate, getD-replicate, length-drop, List·getD-append}
-use lib.Seq.{length-take-le, getD-drop, getD-append-add, drop-at}
+use lib.ListN.{length, take, drop, getD, replicate, length-append, length-replicate, getD-replicate, List·getD-append}
+use lib.Seq.{length-take-le, getD-append-add, drop-at}
 use lib.Ieee.{Float, nan}
 use Rattle.seqs.specs.Lists.{each, dropWhile, upto, All}
 use Rattle.seqs.specs.All.{all-at}
-use Rattle.seqs.specs.Each.{each-length}
 use Rattle.seqs.specs.Slices.{Wrote}
 use Rattle.outlines.specs.declared.rule.FillRule.{FillRule}
 use Rattle.rules.specs.declared.Settings.{Settings}
@@ -22,7 +21,7 @@ use Rattle.rules.specs.PieceTable.{pieceBlock, rowCounts}
 use Rattle.edges.specs.declared.rows.Rows.{Rows}
 use Rattle.edges.specs.Span.{rowNumber}
 use Rattle.sweep.specs.declared.piece.Span.{Span}
-use Rattle.sweep.specs.Swept.{piecePlace, cuts, cutAt, enters, places, numbers, swept, Laid}
+use Rattle.sweep.specs.Swept.{cuts, cutAt, enters, places, numbers, swept, Laid}
 use Rattle.sweep.specs.SweptLaws.{asPiece, cuts-pieces}
 
 abbrev flat : List (List Piece) → List Piece
@@ -55,29 +54,6 @@ block-at (p ∷ ps) rest (suc i) z h =
 module _ (e n : ℕ) (rows : List (List Piece)) {d d′ : List Float} {a a′ : List ℕ} (l : Laid e n rows d d′ a a′) where
   pub laid-count : n ≡ length (flat rows)
   laid-count = omega (arith, l .pieces .count)
-
-  module _ (i : ℕ) (z : Piece) (h : i < n) where
-    -- piece i's block
-    pub laid-piece : 6 * e + 3 * n ≤ length d → Read d′ (6 * e + 3 * i) (getD (flat rows) i z)
-    laid-piece room =
-        let s = each-length pieceBlock 3 (λ p. refl) (flat rows) in
-        let w = wrote-there (piecePlace e 0) (each pieceBlock (flat rows)) (l .pieces .wrote) (omega (arith, s, laid-count)) in
-        let r = block-at (flat rows) (drop (piecePlace e 0 + length (each pieceBlock (flat rows))) d) i z (omega (arith, laid-count)) in
-        let q : 6 * e + 3 * i ≡ piecePlace e 0 + 3 * i = omega arith in
-        let q1 : 6 * e + 3 * i + 1 ≡ piecePlace e 0 + (3 * i + 1) = omega arith in
-        let q2 : 6 * e + 3 * i + 2 ≡ piecePlace e 0 + (3 * i + 2) = omega arith in
-        record {
-          y = ap (λ k. getD d′ k nan) q ∙ sym (getD-drop (piecePlace e 0) d′ (3 * i) nan) ∙ ap (λ x. getD x (3 * i) nan) w ∙ r .y;
-          xa = ap (λ k. getD d′ k nan) q1 ∙ sym (getD-drop (piecePlace e 0) d′ (3 * i + 1) nan) ∙ ap (λ x. getD x (3 * i + 1) nan) w ∙ r .xa;
-          xb = ap (λ k. getD d′ k nan) q2 ∙ sym (getD-drop (piecePlace e 0) d′ (3 * i + 2) nan) ∙ ap (λ x. getD x (3 * i + 2) nan) w ∙ r .xb;
-        }
-
-    -- the count of its row
-    pub laid-row : 4 * e + n ≤ length a → getD a′ (4 * e + i) 0 ≡ getD (rowCounts 0 rows) i 0
-    laid-row room =
-        let s = counts-length 0 rows in
-        let w = wrote-there 0 (rowCounts 0 rows) (l .counts) (omega (arith, s, laid-count, length-drop (4 * e) a)) in
-        sym (getD-drop (4 * e) a′ i 0) ∙ ap (λ x. getD x i 0) w ∙ List·getD-append (rowCounts 0 rows) _ 0 i (omega (arith, s, laid-count))
 
 -- ---- a piece's row number, by the count of its row
 
