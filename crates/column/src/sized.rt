@@ -5,6 +5,7 @@ ghost use mathlib.Core.List.{[], _∷_};
 ghost use Prim.Native.Nat.{_*_, _≤_};
 ghost use lib.ListN.{length};
 ghost use Rattle.geom.specs.Outline.{points};
+ghost use Rattle.satinrules.specs.Pairs.{totalOf};
 ghost use Rattle.satinrules.specs.Column.{onlyIf};
 ghost use Rattle.satinrules.specs.Calls.{passSteps, most};
 ghost use Rattle.pairing.specs.Store.{Laid};
@@ -13,7 +14,8 @@ use geom::P;
 use limits::MOST_PAIRS;
 use pairing::places::Pass;
 use pairing::places::count_places;
-use pairing::places::pass_of;
+use pairing::places::pass_along;
+use pairing::places::total;
 use pairing::store::lay_pairs;
 use passes::top::spaced;
 use satin::underlay::runs;
@@ -29,12 +31,13 @@ pub struct Passes {
     pub t: usize,
 }
 
-// Whether the pass that `step` asks for is small enough, where it is sewn.
-fn sized_if(sewn: bool, sync: &[f64], ends: P, step: f64) -> bool
+// Whether the pass that `step` asks for is small enough, where it is sewn. The centre's length is added up once for all.
+fn sized_if(sewn: bool, sync: &[f64], ends: P, length: f64, step: f64) -> bool
+    requires { ⌜ length ≡ totalOf ends (points (now sync)) ⌝ }
     ensures { λ r. ⌜ r ≡ sizedAt ends (points (now (sync .entry))) (onlyIf sewn (step ∷ [])) ⌝ }
 {
     if sewn {
-        let pass = pass_of(sync, ends, step);
+        let pass = pass_along(length, step);
         return pass.n <= MOST_PAIRS;
     }
     true
@@ -45,14 +48,15 @@ pub fn column_sized(sync: &[f64], ends: P, g: Satin) -> bool
     ensures { λ r. ⌜ r ≡ sizedAt ends (points (now (sync .entry))) (passSteps g) ⌝ }
 {
     let style = g.style;
-    if !sized_if(runs(g), sync, ends, g.run_len) {
+    let length = total(sync, ends);
+    if !sized_if(runs(g), sync, ends, length, g.run_len) {
         return false;
     }
     let zigzag = g.underlay / 4 % 2 == 1;
-    if !sized_if(zigzag, sync, ends, Satin::ZIGZAG_UNDERLAY_SPACING) {
+    if !sized_if(zigzag, sync, ends, length, Satin::ZIGZAG_UNDERLAY_SPACING) {
         return false;
     }
-    sized_if(true, sync, ends, spaced(style, g.spacing))
+    sized_if(true, sync, ends, length, spaced(style, g.spacing))
 }
 
 // How many places a pass has; none where it isn't sewn.
@@ -80,11 +84,12 @@ pub fn passes_of(
     ensures { λ r. ⌜ (r ≡ passesOf ends (points (now (sync .entry))) g) × (length (now (work .exit)) ≡ length (now (work .entry))) × (4 * r .t ≤ length (now (work .entry)) → topLaid (now (a .entry)) (now (b .entry)) (now (sync .entry)) ends r (now (work .exit))) ⌝ }
 {
     let style = g.style;
-    let run = pass_of(sync, ends, g.run_len);
+    let length = total(sync, ends);
+    let run = pass_along(length, g.run_len);
     let n = places_if(runs(g), sync, ends, run);
-    let zigzag = pass_of(sync, ends, Satin::ZIGZAG_UNDERLAY_SPACING);
+    let zigzag = pass_along(length, Satin::ZIGZAG_UNDERLAY_SPACING);
     let m = places_if(g.underlay / 4 % 2 == 1, sync, ends, zigzag);
-    let top = pass_of(sync, ends, spaced(style, g.spacing));
+    let top = pass_along(length, spaced(style, g.spacing));
     let t = lay_pairs(work, rails, a, b, sync, ends, top);
     Passes {
         run,

@@ -9,6 +9,7 @@ use lib.Ieee.{Float, lt}
 use Rattle.numbers.specs.Num.{_⊖_, _⊘_, real, zero64}
 use Rattle.geom.specs.declared.point.P.{P}
 use Rattle.geom.specs.Outline.{points}
+use Rattle.geom.specs.Steps.{steps}
 use Rattle.polyline.specs.Line.{shortest}
 use Rattle.satinrules.specs.Pairs.{origin, kept, centre, totalOf, countOf, inWindow, windows}
 use Rattle.pairing.specs.declared.places.Pass.{Pass}
@@ -34,7 +35,11 @@ goesOn k = lt (k .s) (centre (k .from) (k .to) ⊖ shortest) && ltb 0 (k .left)
 abbrev pub walkAt : Walk → Float → ℕ → Walk
 walkAt k s m = record { from = k .from; to = k .to; last = k .last; next = k .next; s = s; left = m }
 
--- the pass that `step` asks for: n, and the length of its steps
+-- the pass that `step` asks for along a centre of this length: n, and the length of its steps
+abbrev pub passAlong : Float → Float → Pass
+passAlong total step = record { n = steps total step; step = total ⊘ real (pos (steps total step)) }
+
+-- the same along the rails' own centre
 unfoldable pub passOf : P → List P → Float → Pass
 passOf ends sync step = record { n = countOf ends sync step; step = totalOf ends sync ⊘ real (pos (countOf ends sync step)) }
 

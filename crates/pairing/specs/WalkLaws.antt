@@ -15,10 +15,10 @@ use Rattle.geom.specs.declared.point.P.{P}
 use Rattle.geom.specs.Outline.{points}
 use Rattle.geom.specs.OutlineLaws.{cornerAt, points-next, points-end}
 use Rattle.polyline.specs.Line.{shortest}
-use Rattle.satinrules.specs.Pairs.{origin, grows, kept, centre, centresFrom, placeAt, inWindow, windows, places}
+use Rattle.satinrules.specs.Pairs.{origin, grows, kept, centre, centresFrom, totalOf, countOf, placeAt, inWindow, windows, places}
 use Rattle.pairing.specs.declared.places.Pass.{Pass}
 use Rattle.pairing.specs.declared.places.Walk.{Walk}
-use Rattle.pairing.specs.Walk.{restOf, laterOf, leftOf, walkAt, goesOn, passOf, walkPlaces}
+use Rattle.pairing.specs.Walk.{restOf, laterOf, leftOf, walkAt, goesOn, passAlong, passOf, walkPlaces}
 
 -- ---- the sync points that are kept
 
@@ -110,6 +110,11 @@ windows-on step p q s m e = rw e
 pub places-count : (ends : P) (sync : List P) (w : Pass) → length (walkPlaces ends sync w) ≡ length (windows (w .step) origin (kept ends origin sync) zero64 (w .n)) + 1
 unfolding walkPlaces
 places-count ends sync w = length-append (windows (w .step) origin (kept ends origin sync) zero64 (w .n)) (ends ∷ [])
+
+-- by the length of the centre
+pub pass-by : (ends : P) (sync : List P) (step : Float) {total : Float} → total ≡ totalOf ends sync → passAlong total step ≡ passOf ends sync step
+unfolding passOf countOf
+pass-by ends sync step e = rw e
 
 -- the places of the pass that `step` asks for are those of `step`
 pub places-are : (ends : P) (sync : List P) (step : Float) → walkPlaces ends sync (passOf ends sync step) ≡ places ends sync step

@@ -11,7 +11,7 @@ ghost use Rattle.geom.specs.declared.point.P.{P};
 ghost use Rattle.geom.specs.Outline.{points};
 ghost use Rattle.polyline.specs.Line.{shortest};
 ghost use Rattle.satinrules.specs.Pairs.{origin, grows, kept, centre, totalOf, placeAt, windows};
-ghost use Rattle.pairing.specs.Walk.{restOf, laterOf, leftOf, walkAt, passOf, walkPlaces, goesOn};
+ghost use Rattle.pairing.specs.Walk.{restOf, laterOf, leftOf, walkAt, passAlong, passOf, walkPlaces, goesOn};
 use geom::P;
 use geom::sewing::corner;
 use geom::steps::steps;
@@ -94,7 +94,7 @@ fn centre(p: P, q: P) -> f64
 }
 
 // The centre lengths of all windows, added up.
-fn total(sync: &[f64], ends: P) -> f64
+pub fn total(sync: &[f64], ends: P) -> f64
     ensures { λ r. ⌜ r ≡ totalOf ends (points (now (sync .entry))) ⌝ }
 {
     let mut sum = 0.0;
@@ -109,16 +109,22 @@ fn total(sync: &[f64], ends: P) -> f64
     sum + centre(p, k.point)
 }
 
-// The pass that `step` asks for.
-pub fn pass_of(sync: &[f64], ends: P, step: f64) -> Pass
-    ensures { λ r. ⌜ r ≡ passOf ends (points (now (sync .entry))) step ⌝ }
+// The pass that `step` asks for along a centre of this length.
+pub fn pass_along(length: f64, step: f64) -> Pass
+    ensures { λ r. ⌜ r ≡ passAlong length step ⌝ }
 {
-    let length = total(sync, ends);
     let n = steps(length, step);
     Pass {
         n,
         step: length / of_u64(n),
     }
+}
+
+// The same along the rails' own centre.
+pub fn pass_of(sync: &[f64], ends: P, step: f64) -> Pass
+    ensures { λ r. ⌜ r ≡ passOf ends (points (now (sync .entry))) step ⌝ }
+{
+    pass_along(total(sync, ends), step)
 }
 
 // Up to here the window from p to q has places.

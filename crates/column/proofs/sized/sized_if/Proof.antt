@@ -1,5 +1,6 @@
-use mathlib.Core.Path.{sym}
+use mathlib.Core.Path.{sym, _∙_}
 use Rattle.geom.specs.Outline.{points}
+use Rattle.pairing.specs.WalkLaws.{pass-by}
 use Rattle.column.specs.Sized.{sizedAt}
 use Rattle.column.specs.SizedLaws.{sized-one}
 use borrow.Author.Needs.{needs}
@@ -9,7 +10,7 @@ use Rattle.column.proofs.sized.sized_if.Tie as tie
 returns : tie.Need-returns
 returns c =
     let a = c .before .before .before .before .args in
-    rw (c .before .before .if1 .taken, c .before .pass-of .ensures) (sym (sized-one (a .ends) (points (a .sync .now)) (a .step)))
+    rw (c .before .before .if1 .taken, c .before .pass-along .ensures ∙ pass-by (a .ends) (points (a .sync .now)) (a .step) (c .before .before .before .before .pre)) (sym (sized-one (a .ends) (points (a .sync .now)) (a .step)))
 
 returns-2 : tie.Need-returns-2
 unfolding sizedAt
