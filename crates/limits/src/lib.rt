@@ -1,7 +1,7 @@
 // Document 01's limits, named in this one place, and the tests that hold input to them.
 ghost use mathlib.Core.Path.{_≡_};
 ghost use Rattle.geom.specs.Outline.{rising};
-ghost use Rattle.limits.specs.Limits.{within, goodNumber, goodPoint, goodNumbers, goodSpacing, goodLen, goodStep, goodInset, goodStagger, goodCell, goodPasses, goodUnderlay, goodSplit, goodSplitGiven, goodTurn, goodOutline, goodLine};
+ghost use Rattle.limits.specs.Limits.{within, goodNumber, goodPoint, goodNumbers, goodSpacing, goodLen, goodStep, goodInset, goodStagger, goodCell, goodPasses, goodUnderlay, goodSplit, goodTurn, goodOutline, goodLine};
 use geom::P;
 use leaves::is_finite;
 
@@ -119,16 +119,6 @@ pub fn good_split(x: f64) -> bool
     ensures { λ r. ⌜ r ≡ goodSplit x ⌝ }
 {
     within(0.5, 1000.0, x)
-}
-
-// The number given for a split: 0 of either sign where there is none.
-pub fn good_split_given(x: f64) -> bool
-    ensures { λ r. ⌜ r ≡ goodSplitGiven x ⌝ }
-{
-    if x == 0.0 {
-        return true;
-    }
-    good_split(x)
 }
 
 // A cosine and a sine: the ends are the f64s nearest to 0.999999 and 1.000001.
