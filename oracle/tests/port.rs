@@ -1,5 +1,5 @@
 //! Findings of docs/FINDINGS.md through the proved library's entries, beside
-//! the original: what each does with the input; and the sheet's K10 and K11. It
+//! the original: what each does with the input; and the sheet's K7 to K12. It
 //! needs the archive.
 
 // The driver's modules are read here as a test's own; it doesn't use all of them.
@@ -19,9 +19,10 @@ mod rng;
 use common::{block, line};
 use inputs::boundaries::bare_strip;
 use inputs::fills::Fill;
+use inputs::outlines::Outline;
 use inputs::rails::{Matched, Rails};
 use zigzag::fill::{Piece, row_list, row_list_by_place, tatami, tatami_by_place};
-use zigzag::geom::{P, Polyline};
+use zigzag::geom::{FillRule, P, Polyline};
 
 /// cos(π/2) as f64 has it.
 const QUARTER: f64 = f64::from_bits(0x3c91a62633145c07);
@@ -184,6 +185,49 @@ fn f6_a_crossing_at_minus_zero() {
     assert_eq!(rows(&f).len(), 2);
     let zeros: Vec<u64> = port_row_list(&f).iter().map(|p| p.xb.to_bits()).collect();
     assert_eq!(zeros, [1 << 63; 2]);
+}
+
+/// The sheet's square Q.
+fn q() -> Outline {
+    Outline::new(&[block(0.0, 0.0, 10.0, 10.0)])
+}
+
+#[test]
+fn k7_and_k8_through_the_archive() {
+    for (x, inside) in [(0.0, 1), (10.0, 0)] {
+        let mut value = 7;
+        let p = P::new(x, 5.0);
+        let answer = ours::geom::point_inside(&q(), FillRule::NonZero, p, &mut value);
+        assert_eq!((answer, value), (expect::DONE, inside));
+    }
+}
+
+#[test]
+fn k9_through_the_archive() {
+    // A point and a line more than are needed, which stay as they were.
+    let (mut out, mut stops) = (vec![7.0; 10], vec![9; 2]);
+    let (mut lines, mut points) = (0, 0);
+    let lent = ours::patterns::Lent {
+        out: &mut out,
+        stops: &mut stops,
+        lines: &mut lines,
+        points: &mut points,
+    };
+    let answer = ours::patterns::cross_stitch(&q(), FillRule::NonZero, 10.0, lent);
+    assert_eq!((answer, lines, points), (expect::DONE, 1, 4));
+    assert_eq!(out, [0.0, 10.0, 10.0, 0.0, 10.0, 10.0, 0.0, 0.0, 7.0, 7.0]);
+    assert_eq!(stops, [4, 9]);
+}
+
+#[test]
+fn k12_through_the_archive() {
+    let (mut out, mut count) = (vec![7.0; 12], 0);
+    let ten = [0.0, 0.0, 10.0, 0.0];
+    let answer = ours::stroke::running(&ten, false, 5.0, 2, &mut out, &mut count);
+    assert_eq!((answer, count), (expect::DONE, 5));
+    let at = |x: f64| [x, 0.0];
+    let sewn = [0.0, 5.0, 10.0, 5.0, 0.0].map(at).concat();
+    assert_eq!(out, [sewn, vec![7.0; 2]].concat());
 }
 
 #[test]

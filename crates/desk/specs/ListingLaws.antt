@@ -5,7 +5,7 @@ use mathlib.Core.List.{List, [], _∷_, _++_}
 use Prim.Native.Nat.{ℕ, _+_, _*_, _≤_, zero-le}
 use native.Mathlib.Omega.{arith}
 use lib.Dec.{eqb}
-use lib.ListN.{length, take, drop, length-append}
+use lib.ListN.{length, take, drop, length-append, length-replicate}
 use lib.Seq.{take-at}
 use lib.Ieee.{Float}
 use Rattle.refusal.specs.Refusal.{DONE}
@@ -17,12 +17,12 @@ use Rattle.rules.specs.Calls.{worked, sewnPoints, sewnEnds}
 use Rattle.rules.specs.CallLaws.{ends-length}
 use Rattle.jobs.specs.declared.job.Parsed.{Parsed}
 use Rattle.jobs.specs.declared.job.Parsed.the-variants.{Done, Refused}
-use Rattle.jobs.specs.Job.{parsed}
+use Rattle.jobs.specs.Job.{goodHead, decoded, parsed}
 use Rattle.jobs.specs.Text.{listing, Ends}
 use Rattle.tatami.specs.declared.Filled.{Filled}
 use Rattle.tatami.specs.Left.{Left, left, leftBy, tatamiLeft}
 use Rattle.desk.specs.Desk.{leftOf, jobLeft}
-use Rattle.desk.specs.Listing.{listingOf, Told}
+use Rattle.desk.specs.Listing.{listingOf, lentLeft, Told}
 
 -- the ends of sections don't fall, and are places of their points
 ends-climb : (l : List Float) (n : ℕ) (ss : List (List P)) → 2 * (n + length (sewnPoints ss)) ≤ length l → Ends l n (sewnEnds n ss)
@@ -67,3 +67,20 @@ module _ (l : Left) {r : Filled} {points : List Float} {stops : List ℕ} (a : r
 
   pub listing-is : listing (r .answer) (r .sections) (r .points) points stops ≡ listingOf l
   listing-is i = listing (a i .answer) (a i .sections) (a i .points) (b i) (c i)
+
+-- what the program lends, read off a badly framed job, which changes none of it: 4,096 points of two floats, 512 sections, 8,192 of each working kind
+pub lent-points : length (lentLeft [] .points) ≡ 2 * 4096
+unfolding jobLeft parsed decoded goodHead
+lent-points = length-replicate 8192 zero64
+
+pub lent-sections : length (lentLeft [] .ends) ≡ 512
+unfolding jobLeft parsed decoded goodHead
+lent-sections = length-replicate {A = ℕ} 512 0
+
+pub lent-floats : length (lentLeft [] .floats) ≡ 8192
+unfolding jobLeft parsed decoded goodHead
+lent-floats = length-replicate 8192 zero64
+
+pub lent-wholes : length (lentLeft [] .wholes) ≡ 8192
+unfolding jobLeft parsed decoded goodHead
+lent-wholes = length-replicate {A = ℕ} 8192 0

@@ -1,12 +1,12 @@
 -- Document 01's limits, and the tests that hold input to them. Definitions only.
 use Prim.Native.Nat.{ℕ, _/_, _%_}
-use mathlib.Core.Bool.{Bool, true, _&&_, _||_}
+use mathlib.Core.Bool.{Bool, true, _&&_}
 use mathlib.Core.List.{List, [], _∷_}
 use lib.Dec.{leb, eqb}
 use lib.ListN.{length}
 use lib.IntN.{pos, negsuc}
-use lib.Ieee.{Float, le, eq}
-use Rattle.numbers.specs.Num.{_⊕_, _⊗_, real, literal, half, zero64}
+use lib.Ieee.{Float, le}
+use Rattle.numbers.specs.Num.{_⊕_, _⊗_, real, literal, half}
 use Rattle.numbers.specs.Order.{finite, magnitude}
 use Rattle.geom.specs.declared.point.P.{P}
 use Rattle.geom.specs.Outline.{rising}
@@ -83,12 +83,9 @@ goodPasses n = leb n 64
 abbrev pub goodUnderlay : ℕ → Bool
 goodUnderlay n = leb n 7
 
--- a split's length; and the number given for a split, 0 of either sign where there is none
+-- a split's length
 unfoldable pub goodSplit : Float → Bool
 goodSplit x = within half (real (pos 1000)) x
-
-unfoldable pub goodSplitGiven : Float → Bool
-goodSplitGiven x = eq x zero64 || goodSplit x
 
 -- ---- TURN: cosine and sine are finite, and c·c + s·s, worked in f64, is from 0.999999 to 1.000001
 

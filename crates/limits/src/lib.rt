@@ -1,7 +1,7 @@
 // Document 01's limits, named in this one place, and the tests that hold input to them.
 ghost use mathlib.Core.Path.{_≡_};
 ghost use Rattle.geom.specs.Outline.{rising};
-ghost use Rattle.limits.specs.Limits.{within, goodNumber, goodPoint, goodNumbers, goodSpacing, goodLen, goodStep, goodInset, goodStagger, goodCell, goodPasses, goodUnderlay, goodSplit, goodSplitGiven, goodTurn, goodOutline, goodLine};
+ghost use Rattle.limits.specs.Limits.{within, goodNumber, goodPoint, goodNumbers, goodSpacing, goodLen, goodStep, goodInset, goodStagger, goodCell, goodPasses, goodUnderlay, goodSplit, goodTurn, goodOutline, goodLine};
 use geom::P;
 use leaves::is_finite;
 
@@ -63,24 +63,24 @@ pub fn good_numbers(l: &[f64]) -> bool
     ok
 }
 
-pub fn good_spacing(x: f64) -> bool
-    ensures { λ r. ⌜ r ≡ goodSpacing x ⌝ }
+pub fn good_spacing(spacing: f64) -> bool
+    ensures { λ r. ⌜ r ≡ goodSpacing spacing ⌝ }
 {
-    within(0.5, 1000.0, x)
+    within(0.5, 1000.0, spacing)
 }
 
 // len and run_len
-pub fn good_len(x: f64) -> bool
-    ensures { λ r. ⌜ r ≡ goodLen x ⌝ }
+pub fn good_len(len: f64) -> bool
+    ensures { λ r. ⌜ r ≡ goodLen len ⌝ }
 {
-    within(1.0, 1000.0, x)
+    within(1.0, 1000.0, len)
 }
 
 // The step of segment_inside and pairs.
-pub fn good_step(x: f64) -> bool
-    ensures { λ r. ⌜ r ≡ goodStep x ⌝ }
+pub fn good_step(step: f64) -> bool
+    ensures { λ r. ⌜ r ≡ goodStep step ⌝ }
 {
-    within(0.5, 1000.0, x)
+    within(0.5, 1000.0, step)
 }
 
 // inset and pull
@@ -96,10 +96,10 @@ pub fn good_stagger(n: u64) -> bool
     n <= 1000
 }
 
-pub fn good_cell(x: f64) -> bool
-    ensures { λ r. ⌜ r ≡ goodCell x ⌝ }
+pub fn good_cell(cell: f64) -> bool
+    ensures { λ r. ⌜ r ≡ goodCell cell ⌝ }
 {
-    within(1.0, 1000.0, x)
+    within(1.0, 1000.0, cell)
 }
 
 pub fn good_passes(n: u64) -> bool
@@ -115,20 +115,10 @@ pub fn good_underlay(n: u64) -> bool
 }
 
 // A split's length.
-pub fn good_split(x: f64) -> bool
-    ensures { λ r. ⌜ r ≡ goodSplit x ⌝ }
+pub fn good_split(max: f64) -> bool
+    ensures { λ r. ⌜ r ≡ goodSplit max ⌝ }
 {
-    within(0.5, 1000.0, x)
-}
-
-// The number given for a split: 0 of either sign where there is none.
-pub fn good_split_given(x: f64) -> bool
-    ensures { λ r. ⌜ r ≡ goodSplitGiven x ⌝ }
-{
-    if x == 0.0 {
-        return true;
-    }
-    good_split(x)
+    within(0.5, 1000.0, max)
 }
 
 // A cosine and a sine: the ends are the f64s nearest to 0.999999 and 1.000001.

@@ -1,9 +1,9 @@
--- Document 01's sheet of checks, K1 to K6, by computing, and the refusals that it names for K1.
+-- Document 01's sheet of checks, K1 to K6, by computing; its fourth slip; and the refusals that it names for K1.
 use mathlib.Core.Path.{_≡_, refl}
 use mathlib.Core.Bool.{true, false}
 use Prim.Native.Nat.{ℕ}
 use mathlib.Core.List.{List, [], _∷_}
-use lib.IntN.{negsuc}
+use lib.IntN.{pos, negsuc}
 use lib.Ieee.{Float, fin, add, sub, mul, div, neg, lt, le, eq, ofInt, round, toSigned, toUnsigned, odd, isNan}
 use Rattle.numbers.specs.Num.{literal, zero64}
 use Rattle.numbers.specs.Order.{negative, before, smaller, larger, magnitude, finite}
@@ -51,6 +51,16 @@ k1 = refl
 pub k1-lower : tatami ((pt 0 0 ∷ pt 10 0 ∷ pt 10 9 ∷ pt 0 9 ∷ []) ∷ []) NonZero (set 10 zero64) 1 false ≡ (pt 0 2 ∷ pt 10 2 ∷ pt 10 6 ∷ pt 0 6 ∷ []) ∷ []
 unfolding add sub mul div neg lt le eq ofInt round toSigned toUnsigned odd isNan literal negative before smaller larger magnitude wholeOf floor ceil isqrt nearRoot rootUnits root len dist lerp along Rattle.outlines.specs.Winding.edge Rattle.outlines.specs.Winding.edges ring winding inside pointInside sidesTo sides edgeOf keptSide turned edges howMany through ymin ymax kLo kHi rowNumbers rowAt starts lives crossX byX crossed dir crossing spans shrink pieceOf minRow wide piecesAt piecesOf overlap linkEnds linkInside connects joined joins rowEntries begun entries met rowList section sections cycle remEuclid offset minEnd m0 m1 needles rowPoints parts between sewFrom sew sewn tatami
 k1-lower = refl
+
+-- K1's row at y = 10 is one of its rows, and is empty
+pub k1-empty : (rowNumbers (set 10 zero64) (edges (set 10 zero64) Q) ≡ pos 0 ∷ pos 1 ∷ pos 2 ∷ []) × (piecesOf NonZero (set 10 zero64) (edges (set 10 zero64) Q) (pos 2) ≡ [])
+unfolding add sub mul div neg lt le eq ofInt round toSigned odd isNan literal negative before smaller larger magnitude wholeOf floor ceil inside sidesTo sides edgeOf keptSide turned edges howMany through ymin ymax kLo kHi rowNumbers rowAt starts lives crossX byX crossed dir crossing spans shrink pieceOf minRow wide piecesAt piecesOf
+k1-empty = (refl, refl)
+
+-- a waist 2 wide, where a row is empty: what is above it and below it are two sections, though the way between them is inside
+pub waist : tatami ((pt 0 0 ∷ pt 11 0 ∷ pt 11 12 ∷ pt 0 12 ∷ pt 9 6 ∷ []) ∷ []) NonZero (set 10 zero64) 1 false ≡ (pt 3 2 ∷ pt 11 2 ∷ []) ∷ (pt 3 10 ∷ pt 11 10 ∷ []) ∷ []
+unfolding add sub mul div neg lt le eq ofInt round toSigned toUnsigned odd isNan literal negative before smaller larger magnitude wholeOf floor ceil isqrt nearRoot rootUnits root len dist lerp along Rattle.outlines.specs.Winding.edge Rattle.outlines.specs.Winding.edges ring winding inside pointInside sidesTo sides edgeOf keptSide turned edges howMany through ymin ymax kLo kHi rowNumbers rowAt starts lives crossX byX crossed dir crossing spans shrink pieceOf minRow wide piecesAt piecesOf overlap linkEnds linkInside connects joined joins rowEntries begun entries met rowList section sections cycle remEuclid offset minEnd m0 m1 needles rowPoints parts between sewFrom sew sewn tatami
+waist = refl
 
 pub k2 : tatami Q NonZero (set 10 zero64) 1 true ≡ (pt 0 6 ∷ pt 10 6 ∷ pt 10 2 ∷ pt 0 2 ∷ []) ∷ []
 unfolding add sub mul div neg lt le eq ofInt round toSigned toUnsigned odd isNan literal negative before smaller larger magnitude wholeOf floor ceil isqrt nearRoot rootUnits root len dist lerp along Rattle.outlines.specs.Winding.edge Rattle.outlines.specs.Winding.edges ring winding inside pointInside sidesTo sides edgeOf keptSide turned edges howMany through ymin ymax kLo kHi rowNumbers rowAt starts lives crossX byX crossed dir crossing spans shrink pieceOf minRow wide piecesAt piecesOf overlap linkEnds linkInside connects joined joins rowEntries begun entries met rowList section sections cycle remEuclid offset minEnd m0 m1 needles rowPoints parts between sewFrom sew sewn tatami

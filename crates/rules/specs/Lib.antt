@@ -18,4 +18,5 @@ pub mod RowsRise
 pub mod Stitches
 pub mod Counts
 pub mod Theorems
+pub mod Ties
 pub mod CallLaws

@@ -1,7 +1,7 @@
--- Document 01's checks K10 and K11, of the definitions, by computing; and a whole column.
+-- Document 01's checks K10 and K11, of the definitions, by computing; a whole column; and the four constants.
 use Prim.Native.Nat.{ℕ}
 use mathlib.Core.Path.{_≡_, refl}
-use mathlib.Core.Bool.{true}
+use mathlib.Core.Bool.{true, false}
 use mathlib.Core.List.{[], _∷_}
 use lib.ListN.{length}
 use lib.Ieee.{Float, add, sub, mul, div, neg, lt, le, eq, ofInt, round, toUnsigned, isNan}
@@ -14,7 +14,7 @@ use Rattle.geom.specs.Point.{point, len, dist, norm, lerp, tiny}
 use Rattle.geom.specs.Steps.{steps}
 use Rattle.polyline.specs.Line.{lengthFrom, polylineLength, shortest}
 use Rattle.satinrules.specs.declared.Pair.{Pair}
-use Rattle.satinrules.specs.declared.Split.the-variants.{Length}
+use Rattle.satinrules.specs.declared.Split.the-variants.{Absent, Length}
 use Rattle.satinrules.specs.declared.Style.the-variants.{Plain}
 use Rattle.satinrules.specs.Settings.{shortDist, shortInset, underlayInset, zigzagUnderlaySpacing}
 use Rattle.satinrules.specs.Arc.{lengthsFrom, lengths, clamp, partitionPoint, sideEnd, fraction, onSide, at, railAt}
@@ -47,3 +47,20 @@ k11 = refl
 pub all-passes : length (column rails (record { spacing = n 5; pull = n 1; underlay = 7; «run_len» = n 5; «short_stitches» = true; split = Length (n 2); style = Plain })) ≡ 29
 unfolding add sub mul div neg lt le eq ofInt round toUnsigned isNan literal negative before smaller larger wholeOf ceil isqrt nearRoot rootUnits root len dist norm lerp tiny steps lengthFrom polylineLength shortest lengthsFrom lengths clamp partitionPoint sideEnd fraction onSide at railAt endsOf grows kept centre centresFrom totalOf countOf placeAt inWindow windows places few pairAt pairs shortDist shortInset underlayInset zigzagUnderlaySpacing inset middle alternate centrePass contourPass zigzagPass afterCentre afterZigzag underlay widened crowded pulled stitch stitchesFrom stitches sidesFrom sides stagger partsOf partEnd partsFrom splitSide bend bends sSide splitLong spaced splitBy styled top column
 all-passes = refl
+
+-- ---- the constants
+
+-- 2.5 and 0.15: a second pair 2 from the last is crowded on both rails, and loses 3 of 20 at each end
+pub short-ends : stitch (record { spacing = n 5; pull = n 0; underlay = 0; «run_len» = n 5; «short_stitches» = true; split = Absent; style = Plain }) true (pair 0 0 0 20) (pair 2 0 2 20) ≡ pt 2 3 ∷ pt 2 17 ∷ []
+unfolding add sub mul div neg lt le eq ofInt round isNan literal negative before smaller larger isqrt nearRoot rootUnits root len dist norm tiny shortDist shortInset widened crowded pulled stitch
+short-ends = refl
+
+-- 4.0: of a width of 40 the underlay keeps 4 clear at each end
+pub underlay-clear : inset (pair 0 0 0 40) ≡ pair 0 4 0 36
+unfolding add sub mul div neg lt le eq ofInt round isNan literal negative before smaller isqrt nearRoot rootUnits root len dist norm tiny underlayInset inset
+underlay-clear = refl
+
+-- 30.0: the zigzag underlay of a column of 60 has 3 peaks
+pub zigzag-peaks : length (zigzagPass (record { a = pt 0 0 ∷ pt 60 0 ∷ []; b = pt 0 4 ∷ pt 60 4 ∷ []; sync = [] }) false) ≡ 3
+unfolding add sub mul div neg lt le eq ofInt round toUnsigned isNan literal negative before smaller larger wholeOf ceil isqrt nearRoot rootUnits root len dist norm lerp tiny steps lengthFrom polylineLength shortest endsOf grows kept centre centresFrom totalOf countOf placeAt inWindow windows places few pairAt pairs zigzagUnderlaySpacing inset alternate zigzagPass
+zigzag-peaks = refl

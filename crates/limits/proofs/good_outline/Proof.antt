@@ -1,3 +1,4 @@
+use mathlib.Core.Bool.{and-false}
 use borrow.Author.Tests.{eq-eqb, ne-eqb, lt-leb, le-leb}
 use Rattle.limits.specs.Limits.{goodOutline}
 use borrow.Author.Needs.{needs}
@@ -14,7 +15,7 @@ returns-2 c = rw (eq-eqb _ _ (c .before .if1 .left), lt-leb _ 255 (c .if2 .taken
 
 returns-3 : tie.Need-returns-3
 unfolding goodOutline
-returns-3 c = rw (eq-eqb _ _ (c .before .before .if1 .left), le-leb _ _ (c .before .if2 .left), lt-leb _ _ (c .if3 .taken))
+returns-3 c = rw (lt-leb _ 1024 (c .if3 .taken)) (rw (and-false _))
 
 returns-4 : tie.Need-returns-4
 unfolding goodOutline
