@@ -24,11 +24,12 @@ use Rattle.satinrules.specs.Pairs.{endsOf, few, pairs}
 use Rattle.satinrules.specs.Column.{spacingOf, stitches, underlay, top, column}
 use Rattle.satinrules.specs.Calls.{railsOf, passSteps, sized, most, mostOf, need, worked}
 use Rattle.satin.specs.Underlay.{underlayCount}
+use Rattle.satinrules.specs.CallLaws.{most-left, most-right, answer-size, answer-work, answer-fitted}
 use Rattle.passes.specs.Threads.{pairsIn}
 use Rattle.satin.specs.UnderlayLaws.{underlay-count, run-size, fit-laid, fit-stitches}
 use Rattle.column.specs.declared.sized.Passes.{Passes}
 use Rattle.column.specs.Sized.{sizedAt, passesOf, mostIn, topLaid}
-use Rattle.column.specs.SizedLaws.{most-left, most-right, most-small, run-fit, zigzag-fit, top-fit, run-room, zigzag-room, top-room, answer-size, answer-work, answer-fitted}
+use Rattle.column.specs.SizedLaws.{most-small, run-fit, zigzag-fit, top-fit, run-room, zigzag-room, top-room}
 use Rattle.column.specs.Topping.{topOf}
 use Rattle.column.specs.ToppingLaws.{top-is}
 use Rattle.column.specs.Halves.{Ready, pathIn, topPath, columnPassed}

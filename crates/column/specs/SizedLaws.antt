@@ -1,5 +1,5 @@
 -- What is proved of the passes that are sewn: SIZE and N by them, that each fits, and which answer it is. Assumes nothing.
-use Prim.Native.Nat.{ℕ, _*_, _≤_, _<_}
+use Prim.Native.Nat.{ℕ, _*_, _≤_}
 use native.Mathlib.Omega.{arith}
 use mathlib.Core.Path.{_≡_, refl, sym, ap, _∙_}
 use mathlib.Core.Bool.{Bool, true, false, _&&_, cond}
@@ -8,18 +8,17 @@ use mathlib.Core.List.{List, [], _∷_, _++_}
 use lib.Dec.{leb}
 use lib.ListN.{length}
 use lib.Ieee.{Float}
-use borrow.Author.Tests.{le-leb, lt-leb, leb-true, leb-false}
-use Rattle.refusal.specs.Refusal.{SIZE, WORK}
+use borrow.Author.Tests.{le-leb, leb-true}
 use Rattle.seqs.specs.Tests.{and-both, either, clash}
 use Rattle.geom.specs.declared.point.P.{P}
 use Rattle.geom.specs.Outline.{points}
-use Rattle.geom.specs.Sewing.{fitted}
 use Rattle.limits.specs.Limits.{mostPairs}
 use Rattle.satinrules.specs.declared.Satin.{Satin}
 use Rattle.satinrules.specs.Settings.{zigzagUnderlaySpacing}
 use Rattle.satinrules.specs.Pairs.{Rails, endsOf, few, countOf, pairs}
 use Rattle.satinrules.specs.Column.{onlyIf, bit, spacingOf}
-use Rattle.satinrules.specs.Calls.{railsOf, passSteps, sized, most, mostOf, need, passed}
+use Rattle.satinrules.specs.Calls.{railsOf, passSteps, sized, most, mostOf, need}
+use Rattle.satinrules.specs.CallLaws.{most-left, most-right, most-bound}
 use Rattle.pairing.specs.declared.places.Pass.{Pass}
 use Rattle.pairing.specs.Walk.{passOf, walkPlaces}
 use Rattle.pairing.specs.WalkLaws.{places-bound}
@@ -29,17 +28,7 @@ use Rattle.satin.specs.Underlay.{Fit, runs}
 use Rattle.satin.specs.UnderlayLaws.{fit-count}
 use Rattle.column.specs.Sized.{sizedAt, placesIf, passesOf, mostIn}
 
--- ---- the most of two
-
-module _ (m n : ℕ) where
-  pub most-left : m ≤ most m n
-  most-left = elim (either (leb m n)) [ inl e ↦ rw e (leb-true m n e) | inr e ↦ rw e (omega arith) ]
-
-  pub most-right : n ≤ most m n
-  most-right = elim (either (leb m n)) [ inl e ↦ rw e (omega arith) | inr e ↦ rw e (omega (arith, leb-false m n e)) ]
-
-  most-bound : (k : ℕ) → m ≤ k → n ≤ k → most m n ≤ k
-  most-bound k h g = elim (either (leb m n)) [ inl e ↦ rw e g | inr e ↦ rw e h ]
+-- ---- the most of two, where one is none
 
 most-none : (n : ℕ) → most n 0 ≡ n
 most-none n = elim (either (leb n 0)) [ inl e ↦ rw e (omega (arith, leb-true n 0 e)) | inr e ↦ rw e ]
@@ -163,21 +152,3 @@ module _ (a b sync : List Float) (p : Passes) (work : ℕ) (h : need (railsOf a 
 
   pub top-room : 8 * p .t ≤ work
   top-room = omega (arith, need-room a b sync (mostIn p) work h, most-right (most (p .n) (p .m)) (p .t))
-
--- ---- which answer it is
-
-module _ (r : Rails) (ss : List Float) (ps : List P) (work room : ℕ) (some : few r ≡ false) where
-  pub answer-size : sized r ss ≡ false → passed r ss ps work room ≡ SIZE
-  unfolding passed
-  answer-size h = rw (some, h)
-
-  module _ (ok : sized r ss ≡ true) where
-    pub answer-work : work < need r (mostOf r ss) → passed r ss ps work room ≡ WORK
-    unfolding passed
-    answer-work h = rw (some, ok, lt-leb (need r (mostOf r ss)) work h)
-
-    module _ (works : need r (mostOf r ss) ≤ work) where
-      -- all that is left to ask is the room
-      pub answer-fitted : passed r ss ps work room ≡ fitted ps room
-      unfolding passed
-      answer-fitted = rw (some, ok, le-leb (need r (mostOf r ss)) work works)

@@ -21,17 +21,13 @@ use Rattle.satinrules.specs.Settings.{goodSatin}
 use Rattle.satinrules.specs.Pairs.{Rails, endsOf, few, countOf, places, pairAt, pairs}
 use Rattle.satinrules.specs.Column.{column}
 use Rattle.satinrules.specs.Calls.{railsOf, goodRails, passSteps, sized, most, mostOf, need, passed, bothPoints, pairsRefusal, columnRefusal}
+use Rattle.satinrules.specs.CallLaws.{most-left, most-right, most-bound, answer-size, answer-fitted, no-column}
 use Rattle.pairing.specs.Walk.{passOf}
 use Rattle.pairing.specs.WalkLaws.{places-are, places-bound}
 use Rattle.satin.specs.PassedLaws.{few-none, rails-small}
-use Rattle.column.specs.SizedLaws.{most-left, most-right, answer-size, answer-fitted}
-use Rattle.column.specs.CallLaws.{no-column}
 use Rattle.satinroom.specs.Room.{largestFrom, roomFor, roomAfter, pairsRoomOf, columnRoomOf}
 
 -- ---- the largest n
-
-most-bound : (m n k : ℕ) → m ≤ k → n ≤ k → most m n ≤ k
-most-bound m n k h g = elim (either (leb m n)) [ inl e ↦ rw e g | inr e ↦ rw e h ]
 
 module _ (ends : P) (sync : List P) where
   largest-start : (m : ℕ) (ss : List Float) → m ≤ largestFrom ends sync m ss

@@ -5,5 +5,6 @@ pub mod Arc
 pub mod Pairs
 pub mod Column
 pub mod Calls
+pub mod CallLaws
 pub mod Flat
 pub mod Ks

@@ -6,7 +6,8 @@ use borrow.Author.Tests.{not-true, not-false, ne-eqb}
 use Rattle.geom.specs.Sewing.{flat}
 use Rattle.satinrules.specs.Calls.{railsOf, columnSewn, columnOutput, columnWork}
 use Rattle.satin.specs.PassedLaws.{rails-small, few-any, worked-kept, sound}
-use Rattle.column.specs.CallLaws.{refused-rails, refused-setting, passed-few, passed-on, no-column}
+use Rattle.satinrules.specs.CallLaws.{no-column}
+use Rattle.column.specs.CallLaws.{refused-rails, refused-setting, passed-few, passed-on}
 use borrow.Author.Needs.{needs}
 use Rattle.column.proofs.column.Statement.{statement}
 use Rattle.column.proofs.column.Tie as tie
