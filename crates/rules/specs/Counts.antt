@@ -26,9 +26,10 @@ use Rattle.outlines.specs.Inside.{inside}
 use Rattle.limits.specs.Limits.{goodOutline}
 use Rattle.rules.specs.declared.Settings.{Settings}
 use Rattle.rules.specs.declared.Edge.{Edge}
+use Rattle.rules.specs.Merged.{merged-length}
 use Rattle.rules.specs.FillSections.{pieces-of-rows}
 use Rattle.rules.specs.RowsRise.{outside}
-use Rattle.rules.specs.Fill.{sidesTo, sides, edgeOf, keptSide, turned, edges, rowNumbers, rowAt, starts, lives, byX, crossed, crossing, spans, pieceOf, wide, piecesAt, piecesOf, met, rowList}
+use Rattle.rules.specs.Fill.{sidesTo, sides, edgeOf, keptSide, turned, edges, rowNumbers, rowAt, starts, lives, byX, crossed, crossing, merged, crossings, spans, pieceOf, wide, piecesAt, piecesOf, met, rowList}
 
 -- ---- edges
 
@@ -123,19 +124,20 @@ outside-first rule = ap entered (outside rule)
 
 -- in a row at most half as many pieces as edges
 pub row-half : (rule : FillRule) (g : Settings) (es : List Edge) (k : ℤ) → length (piecesOf rule g es k) ≤ length es / 2
-unfolding piecesOf piecesAt crossed
+unfolding piecesOf piecesAt crossings crossed
 row-half rule g es k =
     let y = rowAt g k in
     let test : ℕ → Bool = λ i. starts es y i && lives es y i in
     let l = sift test (upto 0 (length es)) in
     let places = sortBy (byX es y) l in
     let cs = map (crossing es y) places in
-    let ab = spans rule (pos 0) zero64 cs in
+    let ab = spans rule (pos 0) zero64 (merged cs) in
     omega (
       arith,
       sift-length (wide g) (map (pieceOf g k) ab),
       length-map ab (pieceOf g k),
-      spans-half rule (pos 0) zero64 cs,
+      spans-half rule (pos 0) zero64 (merged cs),
+      merged-length cs,
       outside-first rule,
       length-map places (crossing es y),
       perm-length (sort-perm (byX es y) l),

@@ -8,7 +8,7 @@ use lib.Dec.{eqb, ltb}
 use lib.IntN.{ℤ, pos, negsuc, natAbs, _+ℤ_, _-ℤ_}
 use lib.Signed.{leZ}
 use lib.ListN.{length, getD}
-use lib.Ieee.{Float, inf, neg, lt, le, toSigned, toUnsigned}
+use lib.Ieee.{Float, inf, binary64, neg, lt, le, toBits, toSigned, toUnsigned}
 use Rattle.refusal.specs.Refusal.{DONE, LAYOUT, NUMBER, SETTING, TURN, SIZE, WORK, ROOM}
 use Rattle.numbers.specs.Num.{_⊕_, _⊖_, _⊗_, _⊘_, real, literal, zero64, half}
 use Rattle.numbers.specs.Order.{before, smaller, larger, magnitude}
@@ -113,7 +113,7 @@ lives es y i = lt y (edge es i .y1)
 unfoldable pub crossX : List Edge → Float → ℕ → Float
 crossX es y i = edge es i .x0 ⊕ (y ⊖ edge es i .y0) ⊗ edge es i .dxdy
 
--- crossings go by x in total order; equal x go by the edge's place in the input
+-- crossings go by x in total order; equal x go by the edge's place in the input, which changes nothing (Drawn)
 unfoldable pub byX : List Edge → Float → ℕ → ℕ → Bool
 byX es y i j = byKey before (crossX es y) i j
 
@@ -125,9 +125,26 @@ crossed es y = sortBy (byX es y) (sift (λ i. starts es y i && lives es y i) (up
 unfoldable pub dir : Edge → ℤ
 dir e = cond (e .falls) (pos 1) (negsuc 0)
 
--- a crossing: its x, and its direction
+-- an edge's crossing: its x, and its direction
 unfoldable pub crossing : List Edge → Float → ℕ → Float × ℤ
 crossing es y i = (crossX es y i, dir (edge es i))
+
+-- x and z are equal: equal bits
+unfoldable pub sameX : Float → Float → Bool
+sameX x z = eqb (toBits binary64 x) (toBits binary64 z)
+
+-- a crossing at x of direction d, and those that are left: crossings of equal x are taken as one, their directions added (request [2])
+unfoldable pub mergedFrom : Float → ℤ → List (Float × ℤ) → List (Float × ℤ)
+mergedFrom x d [] = (x, d) ∷ []
+mergedFrom x d (c ∷ cs) = cond (sameX x (c .0)) (mergedFrom x (d +ℤ c .1) cs) ((x, d) ∷ mergedFrom (c .0) (c .1) cs)
+
+unfoldable pub merged : List (Float × ℤ) → List (Float × ℤ)
+merged [] = []
+merged (c ∷ cs) = mergedFrom (c .0) (c .1) cs
+
+-- row y's crossings, of the edges at these places
+unfoldable pub crossings : List Edge → Float → List ℕ → List (Float × ℤ)
+crossings es y places = merged (map (crossing es y) places)
 
 -- where the winding w goes from outside to inside, start, and from inside to outside
 unfoldable pub spans : FillRule → ℤ → Float → List (Float × ℤ) → List (Float × Float)
@@ -156,7 +173,7 @@ wide g p = le (minRow g) (p .xb ⊖ p .xa)
 
 -- row k's kept pieces, of the edges at these places
 unfoldable pub piecesAt : FillRule → Settings → List Edge → ℤ → List ℕ → List Piece
-piecesAt rule g es k places = sift (wide g) (map (pieceOf g k) (spans rule (pos 0) zero64 (map (crossing es (rowAt g k)) places)))
+piecesAt rule g es k places = sift (wide g) (map (pieceOf g k) (spans rule (pos 0) zero64 (crossings es (rowAt g k) places)))
 
 -- row k's kept pieces, the row taken alone
 unfoldable pub piecesOf : FillRule → Settings → List Edge → ℤ → List Piece

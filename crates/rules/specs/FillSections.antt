@@ -24,7 +24,7 @@ use Rattle.rules.specs.declared.Settings.{Settings}
 use Rattle.rules.specs.declared.Edge.{Edge}
 use Rattle.rules.specs.declared.Piece.{Piece}
 use Rattle.rules.specs.declared.Entry.{Entry}
-use Rattle.rules.specs.Fill.{edges, howMany, through, kLo, kHi, rowNumbers, rowAt, crossed, crossing, spans, pieceOf, wide, piecesAt, piecesOf, rowEntries, begun, entries, met, rowList, section, sections, sew, sewn, tatami}
+use Rattle.rules.specs.Fill.{edges, howMany, through, kLo, kHi, rowNumbers, rowAt, crossed, crossings, spans, pieceOf, wide, piecesAt, piecesOf, rowEntries, begun, entries, met, rowList, section, sections, sew, sewn, tatami}
 use Rattle.rules.specs.Sections.{chain-snoc, Next, Begins, section-chain, entries-pieces, bound, all-begin}
 
 -- ---- row numbers
@@ -35,7 +35,7 @@ unfolding piecesOf piecesAt pieceOf
 named rule g es k = all-sift (λ p. p .k ≡ k) (wide g) (map (pieceOf g k) ab) (made ab)
   where
     ab : List (Float × Float)
-    ab = spans rule (pos 0) zero64 (map (crossing es (rowAt g k)) (crossed es (rowAt g k)))
+    ab = spans rule (pos 0) zero64 (crossings es (rowAt g k) (crossed es (rowAt g k)))
 
     made : (l : List (Float × Float)) → All (λ p. p .k ≡ k) (map (pieceOf g k) l)
     made [] = tt

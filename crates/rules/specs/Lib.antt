@@ -8,6 +8,7 @@ pub mod Sections
 pub mod FillSections
 pub mod Sweep
 pub mod SweepLaws
+pub mod Merged
 pub mod Accepted
 pub mod Edges
 pub mod Keys
@@ -18,5 +19,4 @@ pub mod RowsRise
 pub mod Stitches
 pub mod Counts
 pub mod Theorems
-pub mod Ties
 pub mod CallLaws

@@ -23,11 +23,12 @@ use Rattle.outlines.specs.Inside.{inside}
 use Rattle.rules.specs.declared.Settings.{Settings}
 use Rattle.rules.specs.declared.Edge.{Edge}
 use Rattle.rules.specs.declared.Piece.{Piece}
-use Rattle.rules.specs.Fill.{edges, rowNumbers, rowAt, noEdge, edge, starts, lives, crossX, byX, crossed, crossing, spans, shrink, pieceOf, wide, piecesAt, piecesOf, met, rowList}
+use Rattle.rules.specs.Fill.{edges, rowNumbers, rowAt, noEdge, edge, starts, lives, crossX, byX, crossed, crossing, merged, crossings, spans, shrink, pieceOf, wide, piecesAt, piecesOf, met, rowList}
 use Rattle.rules.specs.Accepted.{Checked, Range}
 use Rattle.rules.specs.Alls.{all-both, all-mapped, all-unmapped, all-parts, all-reverse}
 use Rattle.rules.specs.Edges.{Good, within-number, edges-good}
 use Rattle.rules.specs.Rows.{Fair, row-within, rows-fair}
+use Rattle.rules.specs.Merged.{merged-all}
 use Rattle.rules.specs.FillSections.{pieces-of-rows}
 
 -- where an edge crosses a row, and nowhere else: between its ends, but for rounding
@@ -86,20 +87,20 @@ module _ (outline : List (List P)) (g : Settings) (cyc : ℕ) (ok : Checked outl
   unfolding Within
   zero-within = zero-le
 
-  pub spans-small : (rule : FillRule) (k : ℤ) → Fair k → All (λ ab. Within 22 (ab .0) × Within 22 (ab .1)) (spans rule (pos 0) zero64 (map (crossing (edges g outline) (rowAt g k)) (crossed (edges g outline) (rowAt g k))))
-  unfolding crossing
+  pub spans-small : (rule : FillRule) (k : ℤ) → Fair k → All (λ ab. Within 22 (ab .0) × Within 22 (ab .1)) (spans rule (pos 0) zero64 (crossings (edges g outline) (rowAt g k) (crossed (edges g outline) (rowAt g k))))
+  unfolding crossings crossing
   spans-small rule k h =
       let es = edges g outline in
       let y = rowAt g k in
-      spans-within 22 rule (pos 0) zero64 (map (crossing es y) (crossed es y)) zero-within (all-mapped (λ i. Within 22 (crossX es y i)) (λ c. Within 22 (c .0)) (crossing es y) (λ i w. w) (crossed es y) (crosses-within k h))
+      let cs = map (crossing es y) (crossed es y) in
+      spans-within 22 rule (pos 0) zero64 (merged cs) zero-within (merged-all (Within 22) cs (all-mapped (λ i. Within 22 (crossX es y i)) (λ c. Within 22 (c .0)) (crossing es y) (λ i w. w) (crossed es y) (crosses-within k h)))
 
   pub row-small : (rule : FillRule) (k : ℤ) → Fair k → All Small (piecesOf rule g (edges g outline) k)
   unfolding piecesOf piecesAt pieceOf
   row-small rule k h =
       let es = edges g outline in
       let y = rowAt g k in
-      let cs = map (crossing es y) (crossed es y) in
-      let ab = spans rule (pos 0) zero64 cs in
+      let ab = spans rule (pos 0) zero64 (crossings es y (crossed es y)) in
       all-sift Small (wide g) (map (pieceOf g k) ab)
       (all-mapped (λ ab. Within 22 (ab .0) × Within 22 (ab .1)) Small (pieceOf g k)
       (λ ab w. record {

@@ -18,7 +18,8 @@ use Rattle.outlines.specs.declared.rule.FillRule.{FillRule}
 use Rattle.outlines.specs.declared.rule.FillRule.the-variants.{NonZero, EvenOdd}
 use Rattle.outlines.specs.Inside.{inside}
 use Rattle.rules.specs.declared.Settings.{Settings}
-use Rattle.rules.specs.Fill.{edges, rowAt, crossX, crossed, crossing, spans, shrink, pieceOf, wide, piecesAt, piecesOf}
+use Rattle.rules.specs.Fill.{edges, rowAt, crossX, crossed, crossing, merged, crossings, spans, shrink, pieceOf, wide, piecesAt, piecesOf}
+use Rattle.rules.specs.Merged.{merged-sorted}
 use Rattle.rules.specs.Rise.{Onward, Rise}
 use Rattle.rules.specs.Accepted.{Checked}
 use Rattle.rules.specs.Alls.{sorted-both, sorted-mapped}
@@ -84,13 +85,13 @@ module _ (outline : List (List P)) (g : Settings) (cyc : ℕ) (ok : Checked outl
       )
 
   pub row-rises : (rule : FillRule) (k : ℤ) → Fair k → Rise (piecesOf rule g (edges g outline) k)
-  unfolding piecesOf piecesAt crossing
+  unfolding piecesOf piecesAt crossings crossing
   row-rises rule k h =
       let es = edges g outline in
       let y = rowAt g k in
       let cs = map (crossing es y) (crossed es y) in
-      let ab = spans rule (pos 0) zero64 cs in
+      let ab = spans rule (pos 0) zero64 (merged cs) in
       let right = sorted-mapped (λ i j. T (le (crossX es y i) (crossX es y j))) Right (crossing es y) (λ i j r. r) (crossed es y) (crossings-in-order outline g cyc ok k h) in
-      let later = spans-sorted rule (pos 0) zero64 cs (λ e. clash e (outside rule)) right in
+      let later = spans-sorted rule (pos 0) zero64 (merged cs) (λ e. clash e (outside rule)) (merged-sorted (λ x z. T (le x z)) cs right) in
       sorted-sift Onward (wide g) (map (pieceOf g k) ab)
       (sorted-mapped (λ ab cd. Small ab × Small cd × Later ab cd) Onward (pieceOf g k) (piece-onward k) ab (sorted-both Small Later ab (spans-small outline g cyc ok rule k h) later))

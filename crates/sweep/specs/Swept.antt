@@ -17,7 +17,7 @@ use Rattle.outlines.specs.Inside.{inside}
 use Rattle.rules.specs.declared.Settings.{Settings}
 use Rattle.rules.specs.declared.Edge.{Edge}
 use Rattle.rules.specs.declared.Piece.{Piece}
-use Rattle.rules.specs.Fill.{edge, rowAt, starts, lives, crossX, crossing, spans, shrink, minRow, piecesAt}
+use Rattle.rules.specs.Fill.{edge, rowAt, starts, lives, crossX, crossings, spans, shrink, minRow, piecesAt}
 use Rattle.rules.specs.PieceTable.{pieceBlock, rowCounts}
 use Rattle.edges.specs.declared.rows.Rows.{Rows}
 use Rattle.edges.specs.Span.{rowNumber, Spanned}
@@ -25,6 +25,7 @@ use Rattle.sweep.specs.declared.key.Key.{Key}
 use Rattle.sweep.specs.declared.key.Key.the-variants.{X, Top, Bottom}
 use Rattle.sweep.specs.declared.piece.Cut.{Cut}
 use Rattle.sweep.specs.declared.piece.Span.{Span}
+use Rattle.sweep.specs.declared.piece.Crossing.{Crossing}
 use Rattle.sweep.specs.declared.piece.Scan.{Scan}
 use Rattle.sweep.specs.declared.piece.Step.{Step}
 use Rattle.sweep.specs.declared.piece.Step.the-variants.{Found, End}
@@ -80,7 +81,7 @@ wideSpan c p = le (c .least) (p .xb ⊖ p .xa)
 
 -- what is left of a row's pieces where a scan of its places stands
 unfoldable pub cutsFrom : Cut → List Edge → ℤ → Float → List ℕ → List Span
-cutsFrom c es w start l = sift (wideSpan c) (map (cutEnds c) (spans (c .rule) w start (map (crossing es (c .y)) l)))
+cutsFrom c es w start l = sift (wideSpan c) (map (cutEnds c) (spans (c .rule) w start (crossings es (c .y) l)))
 
 abbrev pub restOf : Cut → List Edge → List ℕ → Scan → List Span
 restOf c es l s = cutsFrom c es (s .w) (s .start) (drop (s .at) l)
@@ -88,11 +89,22 @@ restOf c es l s = cutsFrom c es (s .w) (s .start) (drop (s .at) l)
 unfoldable pub cuts : Cut → List Edge → List ℕ → List Span
 cuts c es l = cutsFrom c es (pos 0) zero64 l
 
+-- a crossing, and one more of its x that falls or rises
+abbrev pub joinedTo : Crossing → Bool → Crossing
+joinedTo c falls = record { x = c .x; dir = c .dir +ℤ cond falls (pos 1) (negsuc 0); next = c .next + 1 }
+
+-- r is the next of a row's crossings, from place `at` on
+pub record Crossed (es : List Edge) (y : Float) (l : List ℕ) (at : ℕ) (r : Crossing) : Type 0 where
+  pub is : crossings es y (drop at l) ≡ (r .x, r .dir) ∷ crossings es y (drop (r .next) l)
+  pub on : at + 1 ≤ r .next
+  pub within : r .next ≤ length l
+  pub small : natAbs (r .dir) + at ≤ r .next
+
 -- a scan, one crossing on
-abbrev pub passed : Cut → Scan → Float → Bool → Scan
-passed c s x falls =
-    let v = s .w +ℤ cond falls (pos 1) (negsuc 0) in
-    record { at = s .at + 1; w = v; start = cond (not (inside (c .rule) (s .w)) && inside (c .rule) v) x (s .start) }
+abbrev pub passed : Cut → Scan → Crossing → Scan
+passed c s x =
+    let v = s .w +ℤ x .dir in
+    record { at = x .next; w = v; start = cond (not (inside (c .rule) (s .w)) && inside (c .rule) v) (x .x) (s .start) }
 
 pub record Next (c : Cut) (es : List Edge) (l : List ℕ) (s : Scan) (p : Span) (t : Scan) : Type 0 where
   pub is : restOf c es l s ≡ p ∷ restOf c es l t

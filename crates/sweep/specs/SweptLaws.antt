@@ -18,7 +18,8 @@ use Rattle.outlines.specs.Inside.{inside}
 use Rattle.rules.specs.declared.Settings.{Settings}
 use Rattle.rules.specs.declared.Edge.{Edge}
 use Rattle.rules.specs.declared.Piece.{Piece}
-use Rattle.rules.specs.Fill.{rowAt, spans, crossing, pieceOf, wide, piecesAt}
+use Rattle.rules.specs.Fill.{rowAt, crossing, merged, crossings, spans, pieceOf, wide, piecesAt}
+use Rattle.rules.specs.Merged.{merged-length}
 use Rattle.rules.specs.PieceTable.{pieceBlock}
 use Rattle.edges.specs.declared.rows.Rows.{Rows}
 use Rattle.edges.specs.Span.{rowNumber}
@@ -43,11 +44,11 @@ spans-few rule w start (c ∷ l) = go (inside rule w && not (inside rule (w +ℤ
     go false p r h = omega arith
 
 pub cuts-few : (c : Cut) (es : List Edge) (l : List ℕ) → length (cuts c es l) ≤ length l
-unfolding cuts cutsFrom
+unfolding cuts cutsFrom crossings
 cuts-few c es l =
     let cs = map (crossing es (c .y)) l in
-    let ss = spans (c .rule) (pos 0) zero64 cs in
-    omega (arith, sift-length (wideSpan c) (map (cutEnds c) ss), length-map ss (cutEnds c), spans-few (c .rule) (pos 0) zero64 cs, length-map l (crossing es (c .y)))
+    let ss = spans (c .rule) (pos 0) zero64 (merged cs) in
+    omega (arith, sift-length (wideSpan c) (map (cutEnds c) ss), length-map ss (cutEnds c), spans-few (c .rule) (pos 0) zero64 (merged cs), merged-length cs, length-map l (crossing es (c .y)))
 
 -- ---- a row's spans are its pieces
 
@@ -69,7 +70,7 @@ module _ (rule : FillRule) (g : Settings) (k : ℤ) where
 
   pub cuts-pieces : (es : List Edge) (l : List ℕ) → piecesAt rule g es k l ≡ map asPiece (cuts (cutAt rule g k) es l)
   unfolding piecesAt cuts cutsFrom cutAt
-  cuts-pieces es l = as-pieces (spans rule (pos 0) zero64 (map (crossing es (rowAt g k)) l))
+  cuts-pieces es l = as-pieces (spans rule (pos 0) zero64 (crossings es (rowAt g k) l))
 
   piece-blocks : (ps : List Span) → each (spanBlock (rowAt g k)) ps ≡ each pieceBlock (map asPiece ps)
   piece-blocks [] = refl

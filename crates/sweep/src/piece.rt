@@ -1,15 +1,17 @@
 // The pieces of a row, one at a time by value, and put behind the table.
 ghost use mathlib.Core.Path.{_≡_};
 ghost use mathlib.Core.Bool.{not, cond, _&&_};
-ghost use Prim.Native.Nat.{_+_, _*_, _≤_};
+ghost use Prim.Native.Nat.{_+_, _*_, _≤_, _<_};
 ghost use lib.IntN.{pos, negsuc, natAbs};
 ghost use lib.ListN.{length, replicate};
 ghost use Rattle.seqs.specs.Records.{Added};
 ghost use Rattle.seqs.specs.Slices.{Wrote};
 ghost use Rattle.outlines.specs.Inside.{inside};
+ghost use Rattle.rules.specs.Fill.{sameX};
 ghost use Rattle.edges.specs.Table.{edgesIn};
-ghost use Rattle.sweep.specs.Swept.{cutEnds, wideSpan, passed, cuts, Stepped, spanBlock, piecePlace};
+ghost use Rattle.sweep.specs.Swept.{Crossed, joinedTo, cutEnds, wideSpan, passed, cuts, Stepped, spanBlock, piecePlace};
 use edges::edge_at;
+use leaves::to_bits;
 use outlines::FillRule;
 
 // What a row asks of its pieces: how much each end gives way, and the least width.
@@ -23,6 +25,13 @@ pub struct Cut {
 pub struct Span {
     pub xa: f64,
     pub xb: f64,
+}
+
+// A row's crossings of equal x, taken as one: their directions added, and where the next one stands.
+pub struct Crossing {
+    pub x: f64,
+    pub dir: i64,
+    pub next: usize,
 }
 
 // Where a scan of a row's places stands: crossings passed, the winding number, and where the span began.
@@ -43,6 +52,47 @@ fn way(falls: bool) -> i64
     if falls { 1 } else { -1 }
 }
 
+// Whether two crossings have equal x.
+fn same_x(x: f64, z: f64) -> bool
+    ensures { λ r. ⌜ r ≡ sameX x z ⌝ }
+{
+    to_bits(x) == to_bits(z)
+}
+
+// The next crossing has the same x: its direction is added.
+fn join(c: Crossing, falls: bool) -> Crossing
+    requires { ⌜ (natAbs (c .dir) ≤ 100000) × (c .next ≤ 100000) ⌝ }
+    ensures { λ r. ⌜ (r ≡ joinedTo c falls) × (natAbs (r .dir) ≤ natAbs (c .dir) + 1) ⌝ }
+{
+    Crossing {
+        x: c.x,
+        dir: c.dir + way(falls),
+        next: c.next + 1,
+    }
+}
+
+// The crossings of a row at y that have the x of the one at `at`.
+fn crossing_at(floats: &[f64], e: usize, places: &[usize], y: f64, at: usize) -> Crossing
+    requires { ⌜ (5 * e ≤ length (now floats)) × (length (now places) ≤ 100000) × (at < length (now places)) ⌝ }
+    ensures { λ r. ⌜ Crossed (edgesIn e (now (floats .entry))) y (now (places .entry)) at r ⌝ }
+{
+    let t = edge_at(floats, e, places[at]);
+    let mut c = Crossing {
+        x: t.x0 + (y - t.y0) * t.dxdy,
+        dir: way(t.falls),
+        next: at + 1,
+    };
+    while c.next < places.len() {
+        let i = c.next;
+        let u = edge_at(floats, e, places[i]);
+        if !same_x(c.x, u.x0 + (y - u.y0) * u.dxdy) {
+            return c;
+        }
+        c = join(c, u.falls);
+    }
+    c
+}
+
 // Whether the winding goes from outside to inside.
 fn begins(rule: FillRule, w: i64, v: i64) -> bool
     ensures { λ r. ⌜ r ≡ (not (inside rule w) && inside rule v) ⌝ }
@@ -54,21 +104,21 @@ fn begins(rule: FillRule, w: i64, v: i64) -> bool
 }
 
 // The scan one crossing on.
-fn pass(c: Cut, s: Scan, x: f64, falls: bool) -> Scan
-    requires { ⌜ (natAbs (s .w) ≤ s .at) × (s .at ≤ 100000) ⌝ }
-    ensures { λ r. ⌜ (r ≡ passed c s x falls) × (natAbs (r .w) ≤ r .at) ⌝ }
+fn pass(c: Cut, s: Scan, x: Crossing) -> Scan
+    requires { ⌜ (natAbs (s .w) ≤ s .at) × (natAbs (x .dir) + s .at ≤ x .next) × (x .next ≤ 100000) ⌝ }
+    ensures { λ r. ⌜ (r ≡ passed c s x) × (natAbs (r .w) ≤ r .at) ⌝ }
 {
     let rule = c.rule;
-    let v = s.w + way(falls);
+    let v = s.w + x.dir;
     if begins(rule, s.w, v) {
         return Scan {
-            at: s.at + 1,
+            at: x.next,
             w: v,
-            start: x,
+            start: x.x,
         };
     }
     Scan {
-        at: s.at + 1,
+        at: x.next,
         w: v,
         start: s.start,
     }
@@ -106,11 +156,9 @@ pub fn next_piece(floats: &[f64], e: usize, places: &[usize], c: Cut, from: Scan
     let y = c.y;
     let mut s = from;
     while s.at < places.len() {
-        let at = s.at;
-        let t = edge_at(floats, e, places[at]);
-        let x = t.x0 + (y - t.y0) * t.dxdy;
-        let next = pass(c, s, x, t.falls);
-        let p = cut_ends(c, next.start, x);
+        let x = crossing_at(floats, e, places, y, s.at);
+        let next = pass(c, s, x);
+        let p = cut_ends(c, next.start, x.x);
         if closes(c, s, next, p) {
             return Step::Found(p, next);
         }
