@@ -2,7 +2,7 @@
 
 use crate::inputs::fills::Fill;
 use crate::inputs::outlines::Outline;
-use crate::owed::fill::Order;
+use crate::owed::fill::Equal;
 use crate::owed::{self, MARGIN};
 
 pub const LAYOUT: &str = "1 0 0\n";
@@ -99,12 +99,12 @@ pub fn listing(answer: u64, count: u64, points: &[u64], ends: &[u64]) -> String 
 
 /// What the program owes for a fill.
 fn wanted(f: &Fill) -> String {
-    let order = if owed::fill::tied(f) {
-        Order::ByPlace
+    let equal = if owed::fill::tied(f) {
+        Equal::Merged
     } else {
-        Order::Original
+        Equal::Original
     };
-    let left = owed::fill::tatami(f, &LENT, order);
+    let left = owed::fill::tatami(f, &LENT, equal);
     let sections = left.counts[0] as usize;
     let ends = &left.slices[3][MARGIN..MARGIN + sections];
     listing(left.answer, left.counts[1], &left.slices[2][MARGIN..], ends)

@@ -21,7 +21,7 @@ use inputs::boundaries::bare_strip;
 use inputs::fills::Fill;
 use inputs::outlines::Outline;
 use inputs::rails::{Matched, Rails};
-use zigzag::fill::{Piece, row_list, row_list_by_place, tatami, tatami_by_place};
+use zigzag::fill::{Piece, row_list, row_list_merged, tatami, tatami_merged};
 use zigzag::geom::{FillRule, P, Polyline};
 
 /// cos(π/2) as f64 has it.
@@ -133,17 +133,17 @@ fn f1_the_bare_strip_in_a_field() {
 }
 
 #[test]
-fn f2_touching_fields_go_by_the_order_of_drawing() {
+fn f2_touching_fields_are_one() {
     let (left, right) = (block(0.0, 0.0, 10.0, 10.0), block(10.0, 0.0, 10.0, 10.0));
-    for (rings, pieces) in [([left.clone(), right.clone()], 4), ([right, left], 2)] {
+    for rings in [[left.clone(), right.clone()], [right, left]] {
         let f = Fill {
             inset: 2.0,
             ..Fill::new(&rings)
         };
-        let list = row_list_by_place(&rings, f.rule(), &f.params());
-        assert_eq!(list.len(), pieces);
+        let list = row_list_merged(&rings, f.rule(), &f.params());
+        assert_eq!(list.len(), 2);
         assert_eq!(port_row_list(&f), list);
-        let sewn = tatami_by_place(&rings, f.rule(), &f.params());
+        let sewn = tatami_merged(&rings, f.rule(), &f.params());
         assert_eq!(port_tatami(&f), sewn);
     }
 }

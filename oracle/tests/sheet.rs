@@ -4,7 +4,7 @@
 mod common;
 
 use common::{block, line, settings};
-use zigzag::fill::{FillParams, Piece, row_list, row_list_by_place, tatami, tatami_by_place, ties};
+use zigzag::fill::{FillParams, Piece, row_list, row_list_merged, tatami, tatami_merged, ties};
 use zigzag::geom::{FillRule, P, Polyline, point_inside};
 use zigzag::patterns::{bounds, cross_stitch};
 use zigzag::satin::{Rails, SatinParams, SatinStyle, column, pairs, s_stitch};
@@ -143,31 +143,26 @@ fn row_list_is_in_the_order_met() {
     assert_eq!(list, [at(1, 6.0), at(0, 2.0)]);
 }
 
-// Field notes, finding 2: which of two touching squares is drawn first decides.
+// Request [2]: which of two touching squares is drawn first doesn't matter.
 #[test]
-fn touching_squares_are_ties_by_place() {
+fn touching_squares_are_one_in_either_order() {
     let p = FillParams {
         inset: 2.0,
         ..settings()
     };
     let left = block(0.0, 0.0, 10.0, 10.0);
     let right = block(10.0, 0.0, 10.0, 10.0);
-    let ends = |rings: &[Polyline]| -> Vec<(f64, f64)> {
-        let list = row_list_by_place(rings, FillRule::NonZero, &p);
-        list.iter()
-            .filter(|r| r.k == 0)
-            .map(|r| (r.xa, r.xb))
-            .collect()
-    };
-    assert_eq!(
-        ends(&[left.clone(), right.clone()]),
-        [(2.0, 8.0), (12.0, 18.0)]
-    );
-    assert_eq!(ends(&[right.clone(), left.clone()]), [(2.0, 18.0)]);
+    for rule in [FillRule::NonZero, FillRule::EvenOdd] {
+        for rings in [[&left, &right], [&right, &left]] {
+            let list = row_list_merged(&rings.map(Clone::clone), rule, &p);
+            let ends: Vec<_> = list.iter().map(|r| (r.k, r.xa, r.xb)).collect();
+            assert_eq!(ends, [(0, 2.0, 18.0), (1, 2.0, 18.0)]);
+        }
+    }
     assert_eq!(ties(&[left, right], &p), 2);
     assert_eq!(ties(&q(), &p), 0);
-    let by_place = tatami_by_place(&q(), FillRule::NonZero, &p);
-    assert_eq!(by_place, tatami(&q(), FillRule::NonZero, &p));
+    let merged = tatami_merged(&q(), FillRule::NonZero, &p);
+    assert_eq!(merged, tatami(&q(), FillRule::NonZero, &p));
 }
 
 // The original works out cos(-angle) and sin(-angle) for the corners, and

@@ -125,11 +125,11 @@ fn tatami_is_zigzags() {
         let sewn = ours::tatami(&rings, rule, &p).unwrap();
         same(
             &sewn,
-            &fill::tatami_by_place(&all_theirs(&rings), their_rule, &their_p),
+            &fill::tatami_merged(&all_theirs(&rings), their_rule, &their_p),
         );
         points += sewn.iter().map(|l| l.len()).sum::<usize>();
         let pieces = ours::row_list(&rings, rule, &p).unwrap();
-        let their_pieces = fill::row_list_by_place(&all_theirs(&rings), their_rule, &their_p);
+        let their_pieces = fill::row_list_merged(&all_theirs(&rings), their_rule, &their_p);
         let words =
             |k, y: f64, xa: f64, xb: f64, s| (k, y.to_bits(), xa.to_bits(), xb.to_bits(), s);
         let listed: Vec<_> = pieces

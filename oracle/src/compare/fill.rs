@@ -7,7 +7,7 @@ use crate::inputs::boundaries::{boundaries, shapes};
 use crate::inputs::crests;
 use crate::inputs::fills::{self, Fill, lend, ways};
 use crate::ours::fill as ours;
-use crate::owed::fill::{self as owed, Order};
+use crate::owed::fill::{self as owed, Equal};
 use crate::owed::{Left, MARGIN, MARK, fresh};
 use crate::rng::Rng;
 use std::cell::RefCell;
@@ -96,7 +96,7 @@ fn show_slice(slice: &[u64]) -> String {
 }
 
 type Need = fn(&Fill) -> Option<Vec<usize>>;
-type Owed = fn(&Fill, &[usize], Order) -> Left;
+type Owed = fn(&Fill, &[usize], Equal) -> Left;
 
 fn function(
     name: &'static str,
@@ -106,12 +106,12 @@ fn function(
     ours: fn(&Fill, &[usize]) -> Left,
 ) -> Function {
     let tie = move |c: &Call| -> Tie<Left> {
-        owed::tied(&c.fill).then(|| (EQUAL_CROSSINGS, owed(&c.fill, &c.lent, Order::ByPlace)))
+        owed::tied(&c.fill).then(|| (EQUAL_CROSSINGS, owed(&c.fill, &c.lent, Equal::Merged)))
     };
     Function::new(
         name,
         move |rng, n| make(rng, n as usize, need, slices),
-        move |c: &Call| owed(&c.fill, &c.lent, Order::Original),
+        move |c: &Call| owed(&c.fill, &c.lent, Equal::Original),
         move |c: &Call| ours(&c.fill, &c.lent),
         tie,
     )
@@ -384,12 +384,12 @@ fn given_words(c: &Call) -> Option<Vec<u64>> {
 /// What a call owes: the number, the counts, and after DONE the front of each
 /// output that holds the answer.
 fn owed_words(owed: Owed, c: &Call) -> Vec<u64> {
-    let order = if owed::tied(&c.fill) {
-        Order::ByPlace
+    let equal = if owed::tied(&c.fill) {
+        Equal::Merged
     } else {
-        Order::Original
+        Equal::Original
     };
-    let left = owed(&c.fill, &c.lent, order);
+    let left = owed(&c.fill, &c.lent, equal);
     let mut words = vec![left.answer];
     words.extend(&left.counts);
     for slice in &left.slices[2..] {

@@ -180,7 +180,7 @@ fn hourglass(rng: &mut Rng) -> Outline {
 }
 
 /// Blocks in columns that touch, each at a height of its own, drawn in any
-/// order: crossings of equal x whose order decides what is a piece.
+/// order: crossings of equal x, of one direction or of both.
 fn bricks(rng: &mut Rng) -> Outline {
     let width = rng.range(4, 30) as f64;
     let rings: Vec<Polyline> = (0..rng.range(2, 8))

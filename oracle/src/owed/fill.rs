@@ -17,11 +17,12 @@ const MOST: u64 = 50_000;
 /// A fill's working slices: floats, whole numbers.
 const WORKING: usize = 2;
 
-/// What equal crossings go by: the original's sort, or the edge's place.
+/// What becomes of a row's equal crossings: the original's sort leaves them in any
+/// order, request [2] takes them as one.
 #[derive(Clone, Copy)]
-pub enum Order {
+pub enum Equal {
     Original,
-    ByPlace,
+    Merged,
 }
 
 /// The table's 1 to 5, which look at no lent slice.
@@ -71,19 +72,19 @@ pub fn row_count(spacing: f64, edges: &[(f64, f64)]) -> i64 {
     (k_hi - k_lo + 1).max(0)
 }
 
-fn pieces(f: &Fill, order: Order) -> Vec<Piece> {
+fn pieces(f: &Fill, equal: Equal) -> Vec<Piece> {
     let (rings, rule, params) = (f.outline.rings(), f.rule(), f.params());
-    match order {
-        Order::Original => fill::row_list(&rings, rule, &params),
-        Order::ByPlace => fill::row_list_by_place(&rings, rule, &params),
+    match equal {
+        Equal::Original => fill::row_list(&rings, rule, &params),
+        Equal::Merged => fill::row_list_merged(&rings, rule, &params),
     }
 }
 
-fn sections(f: &Fill, order: Order) -> Vec<Polyline> {
+fn sections(f: &Fill, equal: Equal) -> Vec<Polyline> {
     let (rings, rule, params) = (f.outline.rings(), f.rule(), f.params());
-    match order {
-        Order::Original => fill::tatami(&rings, rule, &params),
-        Order::ByPlace => fill::tatami_by_place(&rings, rule, &params),
+    match equal {
+        Equal::Original => fill::tatami(&rings, rule, &params),
+        Equal::Merged => fill::tatami_merged(&rings, rule, &params),
     }
 }
 
@@ -100,13 +101,13 @@ fn work(f: &Fill, pieces: usize) -> [usize; 2] {
 }
 
 /// What `tatami` owes where it is lent floats, wholes, floats for points, ends.
-pub fn tatami(f: &Fill, lent: &[usize], order: Order) -> Left {
+pub fn tatami(f: &Fill, lent: &[usize], equal: Equal) -> Left {
     let refused = |answer| left(answer, lent, WORKING, vec![0; 2], &[]);
     let first = gate(f);
     if first != DONE {
         return refused(first);
     }
-    let pieces = pieces(f, order);
+    let pieces = pieces(f, equal);
     if !fits(&work(f, pieces.len()), &lent[..2]) {
         return refused(WORK);
     }
@@ -115,7 +116,7 @@ pub fn tatami(f: &Fill, lent: &[usize], order: Order) -> Left {
     }
     let mut points = Vec::new();
     let mut ends = Vec::new();
-    for section in sections(f, order) {
+    for section in sections(f, equal) {
         points.extend(section.iter().flat_map(|p| [p.x.to_bits(), p.y.to_bits()]));
         ends.push(points.len() as u64 / 2);
     }
@@ -128,13 +129,13 @@ pub fn tatami(f: &Fill, lent: &[usize], order: Order) -> Left {
 
 /// What `row_list` owes where it is lent floats, wholes, floats for y, xa and
 /// xb, row numbers, section numbers.
-pub fn row_list(f: &Fill, lent: &[usize], order: Order) -> Left {
+pub fn row_list(f: &Fill, lent: &[usize], equal: Equal) -> Left {
     let refused = |answer| left(answer, lent, WORKING, vec![0], &[]);
     let first = gate(f);
     if first != DONE {
         return refused(first);
     }
-    let pieces = pieces(f, order);
+    let pieces = pieces(f, equal);
     let n = pieces.len();
     if !fits(&work(f, n), &lent[..2]) {
         return refused(WORK);
@@ -151,10 +152,9 @@ pub fn row_list(f: &Fill, lent: &[usize], order: Order) -> Left {
     left(DONE, lent, WORKING, vec![n as u64], &outputs)
 }
 
-/// Whether the original leaves the answer open: under NonZero, a row with
-/// crossings of opposite direction and equal x.
+/// Whether a row has crossings of equal x, which request [2] takes as one.
 pub fn tied(f: &Fill) -> bool {
-    f.rule == 0 && gate(f) == DONE && fill::ties(&f.outline.rings(), &f.params()) > 0
+    gate(f) == DONE && fill::ties(&f.outline.rings(), &f.params()) > 0
 }
 
 /// What `tatami` needs of each slice to be done; nothing where it is refused
@@ -165,7 +165,7 @@ pub fn tatami_need(f: &Fill) -> Option<Vec<usize>> {
     if points_at_least(&pieces, f.len) > MOST {
         return Some(vec![floats, wholes, 100, pieces.len()]);
     }
-    let sections = sections(f, Order::ByPlace);
+    let sections = sections(f, Equal::Merged);
     let points: usize = sections.iter().map(Vec::len).sum();
     Some(vec![floats, wholes, 2 * points, sections.len()])
 }
@@ -178,5 +178,5 @@ pub fn row_list_need(f: &Fill) -> Option<Vec<usize>> {
 }
 
 fn gated(f: &Fill) -> Option<Vec<Piece>> {
-    (gate(f) == DONE).then(|| pieces(f, Order::ByPlace))
+    (gate(f) == DONE).then(|| pieces(f, Equal::Merged))
 }

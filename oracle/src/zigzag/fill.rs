@@ -38,8 +38,6 @@ struct Edge {
     x0: f64,
     dxdy: f64,
     dir: i32,
-    // added (document 01): the edge's place in the input, over all rings.
-    place: u32,
 }
 
 struct Row {
@@ -56,9 +54,9 @@ pub fn tatami(rings: &[Polyline], rule: FillRule, p: &FillParams) -> Vec<Polylin
     stitch(sections::<false>(rings, rule, p, |_, _| {}, |_| {}), p)
 }
 
-// added (document 01): `tatami` with crossings of equal x by the edge's place.
-// It equals `tatami` wherever `ties` is 0 or the rule is EvenOdd.
-pub fn tatami_by_place(rings: &[Polyline], rule: FillRule, p: &FillParams) -> Vec<Polyline> {
+// added (request [2]): `tatami` with a row's crossings of equal x taken as one.
+// It equals `tatami` wherever `ties` is 0.
+pub fn tatami_merged(rings: &[Polyline], rule: FillRule, p: &FillParams) -> Vec<Polyline> {
     stitch(sections::<true>(rings, rule, p, |_, _| {}, |_| {}), p)
 }
 
@@ -79,24 +77,24 @@ pub fn row_list(rings: &[Polyline], rule: FillRule, p: &FillParams) -> Vec<Piece
     list
 }
 
-// added (document 01): the row list with crossings of equal x by the edge's place.
-pub fn row_list_by_place(rings: &[Polyline], rule: FillRule, p: &FillParams) -> Vec<Piece> {
+// added (request [2]): the row list with a row's crossings of equal x taken as one.
+pub fn row_list_merged(rings: &[Polyline], rule: FillRule, p: &FillParams) -> Vec<Piece> {
     let mut list = Vec::new();
     sections::<true>(rings, rule, p, |r, s| list.push(piece(r, s)), |_| {});
     list
 }
 
-// added (document 01): how often two neighbouring crossings of a row have equal
-// x and opposite direction. Under NonZero, a fill with any is a named tie.
+// added (document 01, request [2]): how often two neighbouring crossings of a row
+// have equal x. A fill with any is a named tie.
 pub fn ties(rings: &[Polyline], p: &FillParams) -> usize {
     let mut count = 0;
-    let meet = |xs: &[(f64, i32, u32)]| {
+    let meet = |xs: &[(f64, i32)]| {
         count += xs
             .windows(2)
-            .filter(|w| w[0].0.to_bits() == w[1].0.to_bits() && w[0].1 != w[1].1)
+            .filter(|w| w[0].0.to_bits() == w[1].0.to_bits())
             .count();
     };
-    sections::<true>(rings, FillRule::NonZero, p, |_, _| {}, meet);
+    sections::<false>(rings, FillRule::NonZero, p, |_, _| {}, meet);
     count
 }
 
@@ -112,17 +110,16 @@ fn piece(r: &Row, section: usize) -> Piece {
 
 // added (document 01): the first half of the original `tatami`. `met` is told
 // of each piece and its section, `crossed` of each row's sorted crossings.
-fn sections<const BY_PLACE: bool>(
+fn sections<const MERGED: bool>(
     rings: &[Polyline],
     rule: FillRule,
     p: &FillParams,
     mut met: impl FnMut(&Row, usize),
-    mut crossed: impl FnMut(&[(f64, i32, u32)]),
+    mut crossed: impl FnMut(&[(f64, i32)]),
 ) -> Vec<Vec<Row>> {
     // completed (document 01): cos(-angle) is c and sin(-angle) is -s.
     let (c, s) = (p.c, -p.s);
     let mut edges: Vec<Edge> = Vec::new();
-    let mut place = 0; // added (document 01)
     for ring in rings {
         let n = ring.len();
         if n < 3 {
@@ -131,7 +128,6 @@ fn sections<const BY_PLACE: bool>(
         for i in 0..n {
             let a = ring[i].rotate(c, s);
             let b = ring[(i + 1) % n].rotate(c, s);
-            place += 1; // added (document 01)
             if (a.y - b.y).abs() < 1e-9 {
                 continue;
             }
@@ -142,7 +138,6 @@ fn sections<const BY_PLACE: bool>(
                 x0: top.x,
                 dxdy: (bot.x - top.x) / (bot.y - top.y),
                 dir,
-                place,
             });
         }
     }
@@ -161,7 +156,7 @@ fn sections<const BY_PLACE: bool>(
 
     let mut active: Vec<usize> = Vec::new();
     let mut next = 0usize;
-    let mut xs: Vec<(f64, i32, u32)> = Vec::new();
+    let mut xs: Vec<(f64, i32)> = Vec::new();
     let mut rows: Vec<Vec<Row>> = Vec::new(); // grouped per k
     for k in k_lo..=k_hi {
         let y = (k as f64 + 0.5) * p.spacing;
@@ -173,19 +168,22 @@ fn sections<const BY_PLACE: bool>(
         xs.clear();
         xs.extend(active.iter().map(|&e| {
             let e = &edges[e];
-            (e.x0 + (y - e.y0) * e.dxdy, e.dir, e.place)
+            (e.x0 + (y - e.y0) * e.dxdy, e.dir)
         }));
-        if BY_PLACE {
-            // added (document 01): equal x go by the edge's place in the input.
-            xs.sort_unstable_by(|a, b| a.0.total_cmp(&b.0).then(a.2.cmp(&b.2)));
-        } else {
-            xs.sort_unstable_by(|a, b| a.0.total_cmp(&b.0));
-        }
+        xs.sort_unstable_by(|a, b| a.0.total_cmp(&b.0));
         crossed(&xs); // added (document 01)
+        if MERGED {
+            // added (request [2]): crossings of equal x are taken as one, their directions added.
+            xs.dedup_by(|later, kept| {
+                let equal = later.0.to_bits() == kept.0.to_bits();
+                kept.1 += if equal { later.1 } else { 0 };
+                equal
+            });
+        }
         let mut w = 0;
         let mut start = 0.0;
         let mut ivs = Vec::new();
-        for &(x, d, _) in &xs {
+        for &(x, d) in &xs {
             let was = rule.inside(w);
             w += d;
             let now = rule.inside(w);
