@@ -121,7 +121,7 @@ lower-bits lo hi x y =
     let e : lower lo hi x y ≡ plus lo x + 2 * minus lo x + 4 * plus hi x + 8 * minus hi x + 16 * minus hi y + 32 * plus hi y + 64 * minus lo y + 128 * plus lo y = omega arith in
     rw e (bits-of (plus lo x) (minus lo x) (plus hi x) (minus hi x) (minus hi y) (plus hi y) (minus lo y) (plus lo y) (omega arith) (omega arith) (omega arith) (omega arith) (omega arith) (omega arith) (omega arith) (omega arith))
 
-pub third-bits : (k : Kind) (x y : ℕ) → Bits (third k x y) 1 1 (plus 81 x) (minus 81 x) (minus 81 y) (plus 81 y) 0 (jumps k)
+third-bits : (k : Kind) (x y : ℕ) → Bits (third k x y) 1 1 (plus 81 x) (minus 81 x) (minus 81 y) (plus 81 y) 0 (jumps k)
 unfolding third
 third-bits Stitch x y =
     let a = digit 81 x .one in

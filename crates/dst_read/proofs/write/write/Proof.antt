@@ -59,7 +59,11 @@ loop-less : tie.Need-loop-less Inv-loop μ-loop
 loop-less c = omega (arith, c .before .before .before .before .before .before .before .before .before .before .before .before .before .loop-test .taken, c .before .before .before .before .before .before .before .before .before .before .before .before .before .before .before .before .before .before .pre .few)
 
 loop-again : tie.Need-loop-again Inv-loop μ-loop
-loop-again c = let a = c .before .before .before .before .before .before .before .before .before .before .before .before .before .before .before .before .before .before .args in let l = c .before .before .before .before .before .before .before .before .before .before .before .before .before .before .loop in let t = put-next (a .bytes .now) (a .n) (l .r) (c .before .before .before .before .before .before .before .before .before .before .before .before .before .loop-test .taken) (c .before .before .before .before .before .before .before .before .before .before .before .before .before .before .before .before .before .before .pre .stand) (l .x) (l .y) (c .before .before .before .before .before .before .before .before .before .before .before .wide .result) (c .before .before .before .before .before .before .before .before .before .wide2 .result) (c .before .before .before .before .before .before .before .wide3 .result) (c .before .before .before .before .before .before .added-x .result) (c .before .before .before .before .before .taken-x .result) (c .before .before .before .before .added-y .result) (c .before .before .before .taken-y .result) (c .before .before .before .before .before .before .before .before .before .before .before .wide .ensures) (c .before .before .before .before .before .before .before .before .before .wide2 .ensures) (c .before .before .before .before .before .before .before .wide3 .ensures) (c .before .before .before .before .before .before .added-x .ensures .0) (c .before .before .before .before .before .taken-x .ensures .0) (c .before .before .before .before .added-y .ensures .0) (c .before .before .before .taken-y .ensures .0) (omega (arith, l .inv .1, c .before .before .before .before .before .taken-x .ensures .1, c .before .before .before .before .before .before .before .before .before .before .before .before .before .before .before .before .before .before .pre .few, c .before .before .before .before .before .before .before .before .before .before .before .before .before .loop-test .taken)) (omega (arith, l .inv .3, c .before .before .before .taken-y .ensures .1, c .before .before .before .before .before .before .before .before .before .before .before .before .before .before .before .before .before .before .pre .few, c .before .before .before .before .before .before .before .before .before .before .before .before .before .loop-test .taken)) (l .inv .5) (l .inv .6) (c .before .before .before .before .before .before .before .before .before .before .before .before .before .before .before .before .before .before .pre .points-fit) (c .before .before .before .before .before .before .before .before .before .before .before .before .before .before .before .before .before .before .pre .marks-fit) (c .before .before .back .result) (c .before .back2 .result) (c .mark .result) (c .before .before .back .ensures) (c .before .back2 .ensures) (c .mark .ensures) in (omega (arith, c .before .before .before .before .before .before .before .before .before .before .before .before .before .loop-test .taken), omega (arith, l .inv .1, c .before .before .before .before .before .before .added-x .ensures .1, c .before .before .before .before .before .taken-x .ensures .1), omega (arith, l .inv .2, c .before .before .before .before .before .before .added-x .ensures .1, c .before .before .before .before .before .taken-x .ensures .1), omega (arith, l .inv .3, c .before .before .before .before .added-y .ensures .1, c .before .before .before .taken-y .ensures .1), omega (arith, l .inv .4, c .before .before .before .before .added-y .ensures .1, c .before .before .before .taken-y .ensures .1), t .0, t .1)
+loop-again c =
+    let a = c .before .before .before .before .before .before .before .before .before .before .before .before .before .before .before .before .before .before .args in
+    let l = c .before .before .before .before .before .before .before .before .before .before .before .before .before .before .loop in
+    let t = put-next (a .bytes .now) (a .n) (l .r) (c .before .before .before .before .before .before .before .before .before .before .before .before .before .loop-test .taken) (c .before .before .before .before .before .before .before .before .before .before .before .before .before .before .before .before .before .before .pre .stand) (l .x) (l .y) (c .before .before .before .before .before .before .before .before .before .before .before .wide .result) (c .before .before .before .before .before .before .before .before .before .wide2 .result) (c .before .before .before .before .before .before .before .wide3 .result) (c .before .before .before .before .before .before .added-x .result) (c .before .before .before .before .before .taken-x .result) (c .before .before .before .before .added-y .result) (c .before .before .before .taken-y .result) (c .before .before .before .before .before .before .before .before .before .before .before .wide .ensures) (c .before .before .before .before .before .before .before .before .before .wide2 .ensures) (c .before .before .before .before .before .before .before .wide3 .ensures) (c .before .before .before .before .before .before .added-x .ensures .0) (c .before .before .before .before .before .taken-x .ensures .0) (c .before .before .before .before .added-y .ensures .0) (c .before .before .before .taken-y .ensures .0) (omega (arith, l .inv .1, c .before .before .before .before .before .taken-x .ensures .1, c .before .before .before .before .before .before .before .before .before .before .before .before .before .before .before .before .before .before .pre .few, c .before .before .before .before .before .before .before .before .before .before .before .before .before .loop-test .taken)) (omega (arith, l .inv .3, c .before .before .before .taken-y .ensures .1, c .before .before .before .before .before .before .before .before .before .before .before .before .before .before .before .before .before .before .pre .few, c .before .before .before .before .before .before .before .before .before .before .before .before .before .loop-test .taken)) (l .inv .5) (l .inv .6) (c .before .before .before .before .before .before .before .before .before .before .before .before .before .before .before .before .before .before .pre .points-fit) (c .before .before .before .before .before .before .before .before .before .before .before .before .before .before .before .before .before .before .pre .marks-fit) (c .before .before .back .result) (c .before .back2 .result) (c .mark .result) (c .before .before .back .ensures) (c .before .back2 .ensures) (c .mark .ensures) in
+    (omega (arith, c .before .before .before .before .before .before .before .before .before .before .before .before .before .loop-test .taken), omega (arith, l .inv .1, c .before .before .before .before .before .before .added-x .ensures .1, c .before .before .before .before .before .taken-x .ensures .1), omega (arith, l .inv .2, c .before .before .before .before .before .before .added-x .ensures .1, c .before .before .before .before .before .taken-x .ensures .1), omega (arith, l .inv .3, c .before .before .before .before .added-y .ensures .1, c .before .before .before .taken-y .ensures .1), omega (arith, l .inv .4, c .before .before .before .before .added-y .ensures .1, c .before .before .before .taken-y .ensures .1), t .0, t .1)
 
 same-length : tie.Need-same-length Inv-loop μ-loop
 same-length c = c .before .loop .inv .5 .len
@@ -68,7 +72,10 @@ same-length-2 : tie.Need-same-length-2 Inv-loop μ-loop
 same-length-2 c = c .before .loop .inv .6 .len
 
 returns : tie.Need-returns Inv-loop μ-loop
-returns c = let l = c .before .loop in let a = c .before .before .before .before .before .args in (front-end (front-at (last-points (drop (3 * l .r) (a .bytes .now)) (wholeAt (l .x) (l .y)) (a .n) (l .r) (search needs)) (l .inv .5)), front-end (front-at (last-marks (drop (3 * l .r) (a .bytes .now)) (wholeAt (l .x) (l .y)) (a .n) (l .r) (search needs)) (l .inv .6)))
+returns c =
+    let l = c .before .loop in
+    let a = c .before .before .before .before .before .args in
+    (front-end (front-at (last-points (drop (3 * l .r) (a .bytes .now)) (wholeAt (l .x) (l .y)) (a .n) (l .r) (search needs)) (l .inv .5)), front-end (front-at (last-marks (drop (3 * l .r) (a .bytes .now)) (wholeAt (l .x) (l .y)) (a .n) (l .r) (search needs)) (l .inv .6)))
 
 pub write-spec : {M : Type 1} → statement M
 write-spec =
