@@ -23,6 +23,11 @@ extern "C" {
 #define BEAHCEROT_SIZE 5
 #define BEAHCEROT_WORK 6
 #define BEAHCEROT_ROOM 7
+#define BEAHCEROT_RECORD 8
+#define BEAHCEROT_CUT 9
+#define BEAHCEROT_STITCH 0
+#define BEAHCEROT_JUMP 1
+#define BEAHCEROT_STOP 2
 
 uint64_t beahcerot_split_long(const double *line, size_t line_len, double max, double *out, size_t out_len, uint64_t *count);
 
@@ -51,6 +56,8 @@ uint64_t beahcerot_resample_keep_corners(const double *line, size_t line_len, do
 uint64_t beahcerot_running(const double *line, size_t line_len, bool closed, double len, uint64_t passes, double *out, size_t out_len, uint64_t *count);
 
 uint64_t beahcerot_dst(const double *points, size_t points_len, uint8_t *out, size_t out_len, uint64_t *count);
+
+uint64_t beahcerot_dst_read(const uint8_t *bytes, size_t bytes_len, double *points, size_t points_len, uint64_t *marks, size_t marks_len, uint64_t *count, uint64_t *number);
 
 double beahcerot_root(double x);
 

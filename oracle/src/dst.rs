@@ -1,4 +1,4 @@
-//! DST records in plain Rust, from request [1]'s words alone, so that it can disagree with ours.
+//! DST records in plain Rust, from the words of requests [1] and [5] alone, so that it can disagree with ours.
 
 const END: [u8; 3] = [0x00, 0x00, 0xf3];
 const LONGEST: i64 = 121;
@@ -6,7 +6,7 @@ const LONGEST: i64 = 121;
 /// What bits 0 to 7 of the first byte stand for, and of the second.
 const FIRST: [&str; 8] = ["x+1", "x-1", "x+9", "x-9", "y-9", "y+9", "y-1", "y+1"];
 const SECOND: [&str; 8] = ["x+3", "x-3", "x+27", "x-27", "y-27", "y+27", "y-3", "y+3"];
-/// Of the third; the two fixed bits are always there, a stop never.
+/// Of the third; the two fixed bits are always there, a stop is never written.
 const THIRD: [&str; 8] = ["1", "1", "x+81", "x-81", "y-81", "y+81", "stop", "jump"];
 
 /// The file of these coordinates, x before y.
@@ -62,4 +62,63 @@ fn weights(axis: char, move_by: i64) -> Vec<String> {
     }
     assert_eq!(rest, 0, "a move beyond {LONGEST}");
     named
+}
+
+const SIZE: u64 = 5;
+const RECORD: u64 = 8;
+const CUT: u64 = 9;
+const MOST: usize = 1_000_000;
+
+pub struct Refused {
+    pub answer: u64,
+    /// Of RECORD, the record's.
+    pub number: u64,
+}
+
+/// The points of a file's records: where each is, and 0 for a stitch, 1 for a jump, 2 for a stop.
+pub fn read(bytes: &[u8]) -> Result<Vec<(i64, i64, u64)>, Refused> {
+    let refused = |answer, number| Err(Refused { answer, number });
+    let mut points = Vec::new();
+    let mut needle = (0, 0);
+    for record in bytes.chunks_exact(3) {
+        if record == END {
+            return Ok(points);
+        }
+        if points.len() == MOST {
+            return refused(SIZE, 0);
+        }
+        let Some((dx, dy, mark)) = said(record) else {
+            return refused(RECORD, points.len() as u64);
+        };
+        needle = (needle.0 + dx, needle.1 + dy);
+        points.push((needle.0, needle.1, mark));
+    }
+    refused(CUT, 0)
+}
+
+/// What a record says, or nothing where it is turned away.
+fn said(record: &[u8]) -> Option<(i64, i64, u64)> {
+    let (mut fixed, mut stop, mut jump) = (0, false, false);
+    let (mut xs, mut ys) = (Vec::new(), Vec::new());
+    for (byte, names) in record.iter().zip([FIRST, SECOND, THIRD]) {
+        for (_, name) in names
+            .iter()
+            .enumerate()
+            .filter(|(at, _)| byte >> at & 1 == 1)
+        {
+            match name.split_at(1) {
+                ("1", _) => fixed += 1,
+                ("x", weight) => xs.push(weight.parse::<i64>().unwrap()),
+                ("y", weight) => ys.push(weight.parse().unwrap()),
+                ("s", _) => stop = true,
+                _ => jump = true,
+            }
+        }
+    }
+    let both_signs = |list: &[i64]| list.iter().any(|w| list.contains(&-w));
+    if both_signs(&xs) || both_signs(&ys) || fixed < 2 || stop && !jump {
+        return None;
+    }
+    let mark = u64::from(jump) + u64::from(stop);
+    Some((xs.iter().sum(), ys.iter().sum(), mark))
 }

@@ -554,9 +554,29 @@ pub mod satin {
 
 /// Machine files.
 pub mod machine {
-    use super::raw::beahcerot_dst;
+    use super::raw::{beahcerot_dst, beahcerot_dst_read};
     pub fn dst(points: &[f64], out: &mut [u8], count: &mut u64) -> u64 {
         let room = out.len();
         unsafe { beahcerot_dst(points.as_ptr(), points.len(), out.as_mut_ptr(), room, count) }
+    }
+    pub fn dst_read(
+        bytes: &[u8],
+        points: &mut [f64],
+        marks: &mut [u64],
+        count: &mut u64,
+        number: &mut u64,
+    ) -> u64 {
+        unsafe {
+            beahcerot_dst_read(
+                bytes.as_ptr(),
+                bytes.len(),
+                points.as_mut_ptr(),
+                points.len(),
+                marks.as_mut_ptr(),
+                marks.len(),
+                count,
+                number,
+            )
+        }
     }
 }

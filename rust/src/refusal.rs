@@ -1,4 +1,4 @@
-//! Document 01's refusals, by name.
+//! Document 01's refusals, and request [5]'s, by name.
 
 use std::fmt;
 
@@ -14,12 +14,16 @@ pub enum Refusal {
     Setting,
     /// A cosine and sine of no turn.
     Turn,
-    /// Over 4,096 rows or cells, or over 65,536 pairs in a pass.
+    /// Over 4,096 rows or cells, over 65,536 pairs in a pass, or over 1,000,000 records.
     Size,
+    /// A record of a DST file, by its number from 0, that is turned away.
+    Record(u64),
+    /// A DST file whose bytes run out before an end record.
+    Cut,
 }
 
 impl Refusal {
-    /// Document 01's number.
+    /// Its number in the table.
     pub fn number(self) -> u64 {
         match self {
             Refusal::Layout => 1,
@@ -27,10 +31,12 @@ impl Refusal {
             Refusal::Setting => 3,
             Refusal::Turn => 4,
             Refusal::Size => 5,
+            Refusal::Record(_) => 8,
+            Refusal::Cut => 9,
         }
     }
 
-    /// The refusal of a number from 1 to 5.
+    /// The refusal of a number that says all: not of 8, whose record is told beside it.
     pub(crate) fn of(number: u64) -> Refusal {
         match number {
             1 => Refusal::Layout,
@@ -38,6 +44,7 @@ impl Refusal {
             3 => Refusal::Setting,
             4 => Refusal::Turn,
             5 => Refusal::Size,
+            9 => Refusal::Cut,
             n => unreachable!("{n} is no refusal of a call with room enough"),
         }
     }
@@ -50,7 +57,9 @@ impl fmt::Display for Refusal {
             Refusal::Number => "a number that is not finite, or over 100,000",
             Refusal::Setting => "a setting outside its range",
             Refusal::Turn => "a cosine and sine of no turn",
-            Refusal::Size => "too many rows, cells or pairs",
+            Refusal::Size => "too many rows, cells, pairs or records",
+            Refusal::Record(n) => return write!(f, "record {n} is turned away"),
+            Refusal::Cut => "no end record",
         })
     }
 }

@@ -1,6 +1,6 @@
-//! Machine files, by request [1]'s words.
+//! Machine files, by the words of requests [1] and [5].
 
-use beahcerot::machine::dst;
+use beahcerot::machine::{Mark, Marked, dst, dst_read};
 use beahcerot::{P, Refusal};
 
 fn points(list: &[(f64, f64)]) -> Vec<P> {
@@ -38,4 +38,47 @@ fn room_is_lent_for_the_longest_moves() {
 fn a_number_too_large_is_told() {
     assert_eq!(dst(&points(&[(100_001.0, 0.0)])), Err(Refusal::Number));
     assert_eq!(dst(&points(&[(f64::NAN, 0.0)])), Err(Refusal::Number));
+}
+
+fn marked(list: &[(f64, f64, Mark)]) -> Vec<Marked> {
+    let point = |&(x, y, mark)| Marked {
+        to: P { x, y },
+        mark,
+    };
+    list.iter().map(point).collect()
+}
+
+#[test]
+fn a_written_file_comes_back_rounded_with_its_jumps() {
+    let mut file = dst(&points(&[(0.5, -0.5), (123.0, -1.0), (-300.4, 0.0)])).unwrap();
+    file.extend([0xff, 0x00]); // what follows the end isn't read
+    let wanted = marked(&[
+        (1.0, -1.0, Mark::Stitch),
+        (62.0, -1.0, Mark::Jump),
+        (123.0, -1.0, Mark::Stitch),
+        (18.0, -1.0, Mark::Jump),
+        (-88.0, -1.0, Mark::Jump),
+        (-194.0, -1.0, Mark::Jump),
+        (-300.0, 0.0, Mark::Stitch),
+    ]);
+    assert_eq!(dst_read(&file), Ok(wanted));
+}
+
+#[test]
+fn a_stop_is_marked() {
+    let file = [0x00, 0x00, 0xc3, 0x00, 0x00, 0xf3];
+    assert_eq!(dst_read(&file), Ok(marked(&[(0.0, 0.0, Mark::Stop)])));
+}
+
+#[test]
+fn a_file_that_is_none_is_told() {
+    let good = [0x00, 0x00, 0x03];
+    let both_signs = [0x03, 0x00, 0x03];
+    assert_eq!(dst_read(&[]), Err(Refusal::Cut));
+    assert_eq!(dst_read(&good), Err(Refusal::Cut));
+    let file = [good, both_signs].concat();
+    assert_eq!(dst_read(&file), Err(Refusal::Record(1)));
+    let mut long = good.repeat(1_000_000);
+    long.extend(both_signs);
+    assert_eq!(dst_read(&long), Err(Refusal::Size));
 }

@@ -48,6 +48,7 @@ use Rattle.exports.proofs.fill.beahcerot_row_list
 use Rattle.exports.proofs.fill.beahcerot_fill_room
 use Rattle.exports.proofs.fill.beahcerot_fill_job
 use Rattle.exports.proofs.machine.beahcerot_dst
+use Rattle.exports.proofs.machine.beahcerot_dst_read
 
 -- ---- the numbers
 
@@ -203,3 +204,6 @@ fill-job-entry κs a x y h k = let s = one (h .0) (k .0) in λ i. (s i .said .an
 
 pub dst-entry : One beahcerot_dst.ended beahcerot_dst.Reads.Learnt
 dst-entry κs a x y h k = both (one (h .0) (k .0)) (λ i. (tt, (one (h .2) (k .2) i, (one (h .1) (k .1) i, tt))))
+
+pub dst-read-entry : One beahcerot_dst_read.ended beahcerot_dst_read.Reads.Learnt
+dst-read-entry κs a x y h k = both (one (h .0) (k .0)) (λ i. (tt, (one (h .3) (k .3) i, (one (h .4) (k .4) i, (one (h .1) (k .1) i, (one (h .2) (k .2) i, tt))))))

@@ -62,6 +62,7 @@ use Rattle.fillroom.proofs.fill_room
 use Rattle.jobs.proofs.job.parse
 use Rattle.desk.proofs.fill_job
 use Rattle.dst.proofs.dst
+use Rattle.dst_read.proofs.dst_read
 
 -- ---- one outcome
 
@@ -257,3 +258,6 @@ printed-outcome bytes out = front-one (printed bytes) out
 
 pub dst-outcome : One dst.ended dst.Reads.Learnt
 dst-outcome κs a x y h k = both (one (h .0) (k .0)) (λ i. (tt, (one (h .1) (k .1) i, tt)))
+
+pub dst-read-outcome : One dst_read.ended dst_read.Reads.Learnt
+dst-read-outcome κs a x y h k = both (one (h .0) (k .0)) (λ i. (tt, (one (h .1) (k .1) i, (one (h .2) (k .2) i, tt))))

@@ -111,7 +111,7 @@ bits-of a b c d e f g h la lb lc ld le lf lg lh =
       is7 = (rw (d4, d8, d16, d32, d64, d128) at (ap (λ k. k % 2) (s6 .1))) ∙ omega arith;
     }
 
-lower-bits : (lo hi x y : ℕ) → Bits (lower lo hi x y) (plus lo x) (minus lo x) (plus hi x) (minus hi x) (minus hi y) (plus hi y) (minus lo y) (plus lo y)
+pub lower-bits : (lo hi x y : ℕ) → Bits (lower lo hi x y) (plus lo x) (minus lo x) (plus hi x) (minus hi x) (minus hi y) (plus hi y) (minus lo y) (plus lo y)
 unfolding lower
 lower-bits lo hi x y =
     let a = digit lo x .one in
@@ -140,11 +140,11 @@ pub lift-is : (z : ℤ) → lift z ≡ 121 + above z - below z
 lift-is (pos n) = omega arith
 lift-is (negsuc n) = omega arith
 
-lift-most : (z : ℤ) → natAbs z ≤ 121 → lift z ≤ 242
+pub lift-most : (z : ℤ) → natAbs z ≤ 121 → lift z ≤ 242
 lift-most z h = omega (arith, lift-is z, abs-parts z)
 
 -- a move by what is added to it and taken off it
-told : (z : ℤ) (p m : ℕ) → natAbs z ≤ 121 → lift z + m ≡ 121 + p → pos p -ℤ pos m ≡ z
+pub told : (z : ℤ) (p m : ℕ) → natAbs z ≤ 121 → lift z + m ≡ 121 + p → pos p -ℤ pos m ≡ z
 told z p m h e = same-int (pos p -ℤ pos m) z (omega (arith, sub-parts-is (pos p) (pos m), lift-is z, abs-parts z))
 
 module _ (k : Kind) (dx dy : ℤ) (hx : natAbs dx ≤ 121) (hy : natAbs dy ≤ 121) where

@@ -90,7 +90,7 @@ quotient-none d n = same-int (quotient d 0 n) (pos 0) (omega (arith, quotient-ab
 quotient-all : (d : ℤ) (n : ℕ) → 0 < n → quotient d n n ≡ d
 quotient-all d n N = same-int (quotient d n n) d (omega (arith, quotient-above d n n, quotient-below d n n, mul-div-right (above d) N, mul-div-right (below d) N))
 
-there : (a b : ℤ) → a +ℤ (b -ℤ a) ≡ b
+pub there : (a b : ℤ) → a +ℤ (b -ℤ a) ≡ b
 there a b = same-int (a +ℤ (b -ℤ a)) b (omega (arith, add-parts a (b -ℤ a), sub-parts-is b a))
 
 here : (a : ℤ) → a +ℤ pos 0 ≡ a

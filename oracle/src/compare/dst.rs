@@ -159,7 +159,7 @@ fn alone(n: usize) -> Option<Vec<f64>> {
 }
 
 /// Points near one another or anywhere; one list in sixteen is spoilt, one in twenty odd.
-fn any(rng: &mut Rng) -> Vec<f64> {
+pub fn any(rng: &mut Rng) -> Vec<f64> {
     let mut list = Vec::new();
     let (mut x, mut y) = (0.0, 0.0);
     for _ in 0..rng.below(8) {

@@ -3,6 +3,7 @@
 //! functions; see README.md for how to add one.
 
 mod dst;
+mod dst_read;
 pub mod fill;
 pub mod geom;
 mod jobs;
@@ -563,7 +564,10 @@ pub fn groups() -> Vec<Group> {
         },
         Group {
             name: "machine",
-            functions: dst::functions(),
+            functions: [dst::functions(), dst_read::functions()]
+                .into_iter()
+                .flatten()
+                .collect(),
             replay: None,
         },
     ]
