@@ -1,6 +1,6 @@
 -- What is proved of salvaging: each corner is kept or dropped, once; what is kept passes document 01's checks; done twice, the second run changes
 -- nothing; and an outline with nothing to drop comes back as it is. Assumes nothing.
-use Prim.Native.Nat.{ℕ, _+_, _/_, _%_, _≤_}
+use Prim.Native.Nat.{ℕ, _+_, _/_, _%_, _≤_, _<_}
 use native.Mathlib.Omega.{arith}
 use mathlib.Core.Path.{_≡_, refl, ap, _∙_}
 use mathlib.Core.Bool.{true}
@@ -11,7 +11,7 @@ use lib.Ieee.{Float}
 use borrow.Author.Tests.{eq-eqb, le-leb}
 use Rattle.refusal.specs.Refusal.{DONE}
 use Rattle.refusal.specs.Sewn.{output}
-use Rattle.seqs.specs.Lists.{upto, each, All}
+use Rattle.seqs.specs.Lists.{upto, each, All, Sorted}
 use Rattle.seqs.specs.Tests.{either, and-both}
 use Rattle.geom.specs.declared.point.P.{P}
 use Rattle.geom.specs.Outline.{points, rings, rising}
@@ -41,6 +41,17 @@ split-from i (m ∷ ms) = elim (either (kept m)) [
 -- the places that are kept and those that are told as dropped are all places, each once
 pub split : (ms : List ℕ) → List·Permᴰ (left ms (upto 0 (length ms)) ++ droppedPlaces 0 ms) (upto 0 (length ms))
 split ms = split-from 0 ms
+
+-- and stand in place order
+places-after : (j i : ℕ) (ms : List ℕ) → j < i → All (λ k. j < k) (droppedPlaces i ms)
+unfolding droppedPlaces
+places-after j i [] h = tt
+places-after j i (m ∷ ms) h = elim (either (kept m)) [ inl e ↦ rw e (places-after j (i + 1) ms (omega arith)) | inr e ↦ rw e (h, places-after j (i + 1) ms (omega arith)) ]
+
+pub places-rise : (i : ℕ) (ms : List ℕ) → Sorted (λ a b. a < b) (droppedPlaces i ms)
+unfolding droppedPlaces
+places-rise i [] = tt
+places-rise i (m ∷ ms) = elim (either (kept m)) [ inl e ↦ rw e (places-rise (i + 1) ms) | inr e ↦ rw e (places-after i (i + 1) ms (omega arith), places-rise (i + 1) ms) ]
 
 module _ (corners : List Float) (ends : List ℕ) (good : goodOutline corners ends ≡ true) where
   rise : rising 0 ends (length corners / 2) ≡ true

@@ -1,6 +1,8 @@
-use mathlib.Core.Path.{sym, _∙_}
+use mathlib.Core.Path.{sym, ap, _∙_}
 use Prim.Native.Nat.{_≤_}
 use native.Mathlib.Omega.{arith}
+use lib.ListN.{set}
+use Rattle.salvage.specs.Ring.{CLOSING}
 use Rattle.salvage.specs.RingLaws.{count}
 use Rattle.salvage.proofs.Rings.{closing-none, first-in, last-in, closing-equal, closing-other}
 use borrow.Author.Needs.{needs}
@@ -45,7 +47,7 @@ returns-2 c =
     let cs = c .before .before .before .before .before .before .before .before .before .before .before .before .before .args .ring .now in
     let ms = c .before .before .before .before .before .before .before .before .before .before .before .before .before .args .marks .now in
     let k : 2 ≤ count ms = omega (arith, c .before .before .before .before .before .before .before .before .before .count-kept .ensures, c .before .before .before .before .before .before .before .before .if1 .left) in
-    rw (c .before .before .before .before .last-kept .ensures) (closing-equal cs ms (c .before .before .before .before .before .before .before .before .before .before .before .before .before .pre) k (sym (rw (c .before .before .before .corner .ensures, c .before .before .corner2 .ensures, c .before .before .before .before .before .before .first-kept .ensures, c .before .before .before .before .last-kept .ensures) at (c .before .same .ensures)) ∙ c .if2 .taken))
+    ap (λ k. set ms k CLOSING) (c .before .before .before .before .last-kept .ensures) ∙ closing-equal cs ms (c .before .before .before .before .before .before .before .before .before .before .before .before .before .pre) k (sym (rw (c .before .before .before .corner .ensures, c .before .before .corner2 .ensures, c .before .before .before .before .before .before .first-kept .ensures, c .before .before .before .before .last-kept .ensures) at (c .before .same .ensures)) ∙ c .if2 .taken)
 
 returns-3 : tie.Need-returns-3
 returns-3 c =
