@@ -52,6 +52,8 @@ uint64_t beahcerot_running(const double *line, size_t line_len, bool closed, dou
 
 uint64_t beahcerot_dst(const double *points, size_t points_len, uint8_t *out, size_t out_len, uint64_t *count);
 
+uint64_t beahcerot_salvage(const double *corners, size_t corners_len, const size_t *ends, size_t ends_len, double *keep, size_t keep_len, size_t *stops, size_t stops_len, size_t *places, size_t places_len, size_t *reasons, size_t reasons_len, uint64_t *count, uint64_t *dropped);
+
 double beahcerot_root(double x);
 
 double beahcerot_floor(double x);

@@ -62,6 +62,7 @@ use Rattle.fillroom.proofs.fill_room
 use Rattle.jobs.proofs.job.parse
 use Rattle.desk.proofs.fill_job
 use Rattle.dst.proofs.dst
+use Rattle.salvage.proofs.salvage
 
 -- ---- one outcome
 
@@ -257,3 +258,8 @@ printed-outcome bytes out = front-one (printed bytes) out
 
 pub dst-outcome : One dst.ended dst.Reads.Learnt
 dst-outcome κs a x y h k = both (one (h .0) (k .0)) (λ i. (tt, (one (h .1) (k .1) i, tt)))
+
+-- ---- broken outlines
+
+pub salvage-outcome : One salvage.ended salvage.Reads.Learnt
+salvage-outcome κs a x y h k = let s = one h k in λ i. (s i .said, (tt, (tt, (s i .corners, (s i .ends, (s i .places, (s i .reasons, tt)))))))
