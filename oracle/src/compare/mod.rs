@@ -9,6 +9,7 @@ mod jobs;
 pub mod leaves;
 pub mod patterns;
 mod records;
+mod salvage;
 pub mod satin;
 pub mod stroke;
 
@@ -564,6 +565,11 @@ pub fn groups() -> Vec<Group> {
         Group {
             name: "machine",
             functions: dst::functions(),
+            replay: None,
+        },
+        Group {
+            name: "mending",
+            functions: salvage::functions(),
             replay: None,
         },
     ]
