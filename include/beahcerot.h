@@ -59,6 +59,8 @@ uint64_t beahcerot_dst(const double *points, size_t points_len, uint8_t *out, si
 
 uint64_t beahcerot_dst_read(const uint8_t *bytes, size_t bytes_len, double *points, size_t points_len, uint64_t *marks, size_t marks_len, uint64_t *count, uint64_t *number);
 
+uint64_t beahcerot_salvage(const double *corners, size_t corners_len, const size_t *ends, size_t ends_len, double *keep, size_t keep_len, size_t *stops, size_t stops_len, size_t *places, size_t places_len, size_t *reasons, size_t reasons_len, uint64_t *count, uint64_t *dropped);
+
 double beahcerot_root(double x);
 
 double beahcerot_floor(double x);

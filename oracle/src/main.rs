@@ -9,6 +9,7 @@ mod job;
 mod ours;
 mod owed;
 mod rng;
+mod salvage;
 
 use compare::{Function, Group, Job, groups};
 use std::process::ExitCode;

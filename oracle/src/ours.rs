@@ -580,3 +580,40 @@ pub mod machine {
         }
     }
 }
+
+/// Broken outlines.
+pub mod salvage {
+    use super::raw::beahcerot_salvage;
+    use crate::inputs::outlines::Outline;
+
+    pub struct Lent<'a> {
+        pub corners: &'a mut [f64],
+        pub ends: &'a mut [u64],
+        pub places: &'a mut [u64],
+        pub reasons: &'a mut [u64],
+        pub kept: &'a mut u64,
+        pub dropped: &'a mut u64,
+    }
+
+    pub fn salvage(o: &Outline, lent: Lent) -> u64 {
+        let (c, e) = (&o.corners, &o.ends);
+        unsafe {
+            beahcerot_salvage(
+                c.as_ptr(),
+                c.len(),
+                e.as_ptr().cast(),
+                e.len(),
+                lent.corners.as_mut_ptr(),
+                lent.corners.len(),
+                lent.ends.as_mut_ptr().cast(),
+                lent.ends.len(),
+                lent.places.as_mut_ptr().cast(),
+                lent.places.len(),
+                lent.reasons.as_mut_ptr().cast(),
+                lent.reasons.len(),
+                lent.kept,
+                lent.dropped,
+            )
+        }
+    }
+}

@@ -6,6 +6,7 @@
 mod fill;
 mod line;
 pub mod machine;
+mod mending;
 mod pattern;
 mod raw;
 mod refusal;
@@ -14,6 +15,7 @@ mod satin;
 
 pub use fill::{FillParams, Piece, row_list, tatami};
 pub use line::running;
+pub use mending::{Dropped, Reason, salvage};
 pub use pattern::{bounds, clip_inside, cross_stitch};
 pub use refusal::Refusal;
 pub use satin::{Rails, SatinParams, SatinStyle, column, pairs, s_stitch, split_long};

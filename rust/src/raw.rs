@@ -19,6 +19,7 @@ unsafe extern "C" {
     pub fn beahcerot_running(line: *const f64, line_len: usize, closed: bool, len: f64, passes: u64, out: *mut f64, out_len: usize, count: *mut u64) -> u64;
     pub fn beahcerot_dst(points: *const f64, points_len: usize, out: *mut u8, out_len: usize, count: *mut u64) -> u64;
     pub fn beahcerot_dst_read(bytes: *const u8, bytes_len: usize, points: *mut f64, points_len: usize, marks: *mut u64, marks_len: usize, count: *mut u64, number: *mut u64) -> u64;
+    pub fn beahcerot_salvage(corners: *const f64, corners_len: usize, ends: *const usize, ends_len: usize, keep: *mut f64, keep_len: usize, stops: *mut usize, stops_len: usize, places: *mut usize, places_len: usize, reasons: *mut usize, reasons_len: usize, count: *mut u64, dropped: *mut u64) -> u64;
     pub fn beahcerot_root(x: f64) -> f64;
     pub fn beahcerot_floor(x: f64) -> f64;
     pub fn beahcerot_ceil(x: f64) -> f64;

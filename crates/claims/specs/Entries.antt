@@ -49,6 +49,7 @@ use Rattle.exports.proofs.fill.beahcerot_fill_room
 use Rattle.exports.proofs.fill.beahcerot_fill_job
 use Rattle.exports.proofs.machine.beahcerot_dst
 use Rattle.exports.proofs.machine.beahcerot_dst_read
+use Rattle.exports.proofs.mending.beahcerot_salvage
 
 -- ---- the numbers
 
@@ -207,3 +208,7 @@ dst-entry κs a x y h k = both (one (h .0) (k .0)) (λ i. (tt, (one (h .2) (k .2
 
 pub dst-read-entry : One beahcerot_dst_read.ended beahcerot_dst_read.Reads.Learnt
 dst-read-entry κs a x y h k = both (one (h .0) (k .0)) (λ i. (tt, (one (h .3) (k .3) i, (one (h .4) (k .4) i, (one (h .1) (k .1) i, (one (h .2) (k .2) i, tt))))))
+-- ---- broken outlines
+
+pub salvage-entry : One beahcerot_salvage.ended beahcerot_salvage.Reads.Learnt
+salvage-entry κs a x y h k = let s = one h k in λ i. (s i .said .answer, (tt, (tt, (s i .corners, (s i .ends, (s i .places, (s i .reasons, (s i .said .corners, (s i .said .dropped, tt)))))))))

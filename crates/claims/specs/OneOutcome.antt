@@ -63,6 +63,7 @@ use Rattle.jobs.proofs.job.parse
 use Rattle.desk.proofs.fill_job
 use Rattle.dst.proofs.dst
 use Rattle.dst_read.proofs.dst_read
+use Rattle.salvage.proofs.salvage
 
 -- ---- one outcome
 
@@ -261,3 +262,7 @@ dst-outcome κs a x y h k = both (one (h .0) (k .0)) (λ i. (tt, (one (h .1) (k 
 
 pub dst-read-outcome : One dst_read.ended dst_read.Reads.Learnt
 dst-read-outcome κs a x y h k = both (one (h .0) (k .0)) (λ i. (tt, (one (h .1) (k .1) i, (one (h .2) (k .2) i, tt))))
+-- ---- broken outlines
+
+pub salvage-outcome : One salvage.ended salvage.Reads.Learnt
+salvage-outcome κs a x y h k = let s = one h k in λ i. (s i .said, (tt, (tt, (s i .corners, (s i .ends, (s i .places, (s i .reasons, tt)))))))

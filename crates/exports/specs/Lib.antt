@@ -2,3 +2,4 @@
 pub mod Stored
 pub mod Fills
 pub mod Borders
+pub mod Mendings

@@ -4,6 +4,7 @@ pub mod border;
 pub mod fill;
 pub mod line;
 pub mod machine;
+pub mod mending;
 pub mod number;
 pub mod pattern;
 pub mod shape;

@@ -10,6 +10,7 @@ mod jobs;
 pub mod leaves;
 pub mod patterns;
 mod records;
+mod salvage;
 pub mod satin;
 pub mod stroke;
 
@@ -568,6 +569,11 @@ pub fn groups() -> Vec<Group> {
                 .into_iter()
                 .flatten()
                 .collect(),
+            replay: None,
+        },
+        Group {
+            name: "mending",
+            functions: salvage::functions(),
             replay: None,
         },
     ]

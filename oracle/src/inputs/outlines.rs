@@ -439,16 +439,21 @@ fn change(rings: &mut [Polyline], f: impl Fn(P) -> P) {
 
 /// Back into document 01's limits, where an alteration went past them.
 fn limit(rings: &mut Vec<Polyline>) {
+    truncate(rings);
+    change(rings, |p| {
+        let clip = |x: f64| x.clamp(-SIZE_LIMIT, SIZE_LIMIT);
+        P::new(clip(p.x), clip(p.y))
+    });
+}
+
+/// At most as many rings and corners as an outline may have.
+pub fn truncate(rings: &mut Vec<Polyline>) {
     rings.truncate(RINGS);
     let mut left = CORNERS;
     for ring in rings.iter_mut() {
         ring.truncate(left);
         left -= ring.len();
     }
-    change(rings, |p| {
-        let clip = |x: f64| x.clamp(-SIZE_LIMIT, SIZE_LIMIT);
-        P::new(clip(p.x), clip(p.y))
-    });
 }
 
 fn spoil_number(rng: &mut Rng, outline: &mut Outline) {
