@@ -9,6 +9,7 @@ pub mod FillSections
 pub mod Sweep
 pub mod SweepLaws
 pub mod Merged
+pub mod Gathered
 pub mod Accepted
 pub mod Edges
 pub mod Keys
