@@ -24,23 +24,26 @@ Number x = T (fits binary64 x) × T (not (isNan x))
 not-self : (x : Float) → before x x ≡ false
 not-self x = refute (before x x) (λ e. absurd (before-irrefl x (holds e)))
 
-one-way : (x z : Float) → before x z ≡ true → before z x ≡ false
+pub one-way : (x z : Float) → before x z ≡ true → before z x ≡ false
 one-way x z p = refute (before z x) (λ q. absurd (before-asym x z (holds p) (holds q)))
 
-through : (x y z : Float) → before x y ≡ true → before y z ≡ true → before x z ≡ true
+pub through : (x y z : Float) → before x y ≡ true → before y z ≡ true → before x z ≡ true
 through x y z p q = is-true (before x z) (before-trans x y z (holds p) (holds q))
 
 -- x stands before z, or behind it, or they are one
-pub data Rel (x z : Float) : Type 0 where
+data Rel (x z : Float) : Type 0 where
   less : before x z ≡ true → before z x ≡ false → Rel x z
   more : before x z ≡ false → before z x ≡ true → Rel x z
   same : x ≡ z → Rel x z
 
-pub rel : (x z : Float) → Number x → Number z → Rel x z
+rel : (x z : Float) → Number x → Number z → Rel x z
 rel x z h k =
     ⊎-elim (λ p. let q = is-true (before x z) p in less q (one-way x z q))
     (λ r. ⊎-elim (λ p. let q = is-true (before z x) p in more (one-way z x q) q) (λ e. same e) r)
     (before-total x z (h .0) (k .0) (h .1) (k .1))
+
+pub neither : (x z : Float) → Number x → Number z → before x z ≡ false → before z x ≡ false → x ≡ z
+neither x z h k p q = elim (rel x z h k) [ less a b ↦ clash a p | more a b ↦ clash b q | same e ↦ e ]
 
 -- ---- one crossing more, among crossings in order
 
@@ -70,7 +73,7 @@ gathered-numbers (c ∷ cs) h = add-numbers (c .0) (c .1) (gathered cs) (h .0) (
 
 -- ---- the order in which they come doesn't matter
 
-add-swap : (d f g : ℤ) → d +ℤ (f +ℤ g) ≡ f +ℤ (d +ℤ g)
+pub add-swap : (d f g : ℤ) → d +ℤ (f +ℤ g) ≡ f +ℤ (d +ℤ g)
 add-swap d f g = sym (+ℤ-assoc d f g) ∙ ap (λ s. s +ℤ g) (+ℤ-comm d f) ∙ +ℤ-assoc f d g
 
 -- in front of those that both stand before
@@ -116,9 +119,9 @@ differ : (x z : Float) → Number x → Number z → before x z ≡ true → sam
 unfolding sameX
 differ x z h k p = ne-eqb (toBits binary64 x) (toBits binary64 z) (λ e. clash p (rw (equal-bits x z (h .0) (k .0) e) (not-self z)))
 
-level : (x z : Float) → x ≡ z → sameX x z ≡ true
+agree : (x z : Float) → x ≡ z → sameX x z ≡ true
 unfolding sameX
-level x z e = eq-eqb (toBits binary64 x) (toBits binary64 z) (ap (toBits binary64) e)
+agree x z e = eq-eqb (toBits binary64 x) (toBits binary64 z) (ap (toBits binary64) e)
 
 -- one more before the first, and one more at the first
 add-before : (x z : Float) (d f : ℤ) (cs : List (Float × ℤ)) → before x z ≡ true → add x d (mergedFrom z f cs) ≡ (x, d) ∷ mergedFrom z f cs
@@ -145,7 +148,7 @@ from-add x d [] h k o = refl
 from-add x d (c ∷ cs) h k o = elim (rel x (c .0) h (k .0)) [
   | less p q ↦ rw (differ x (c .0) h (k .0) p) (sym (add-before x (c .0) d (c .1) cs p))
   | more p q ↦ clash q (o .0)
-  | same e ↦ rw (level x (c .0) e) (rw e (sym (add-level (c .0) d (c .1) cs)))
+  | same e ↦ rw (agree x (c .0) e) (rw e (sym (add-level (c .0) d (c .1) cs)))
 ]
 
 pub merged-gathered : (cs : List (Float × ℤ)) → Numbers cs → Sorted (λ c e. before (e .0) (c .0) ≡ false) cs → merged cs ≡ gathered cs

@@ -21,3 +21,4 @@ pub mod Stitches
 pub mod Counts
 pub mod Theorems
 pub mod CallLaws
+pub mod Drawn
