@@ -236,6 +236,7 @@ Near p = Within 19 (p .x) × Within 19 (p .y) × T (fits binary64 (p .y))
 -- a kept edge: its numbers, and its run over a part of its height
 pub record Good (e : Edge) : Type 0 where
   pub fit : T (fits binary64 (e .y0))
+  pub fit1 : T (fits binary64 (e .y1))
   pub y0 : Within 19 (e .y0)
   pub y1 : Within 19 (e .y1)
   pub x0 : Within 19 (e .x0)
@@ -252,6 +253,7 @@ edge-good top bot falls p q a =
     let s = steep d h wd a wh (sub-fits binary64 (bot .y) (top .y)) in
     record {
       fit = p .2;
+      fit1 = q .2;
       y0 = p .1;
       y1 = q .1;
       x0 = p .0;

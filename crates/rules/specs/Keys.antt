@@ -23,18 +23,20 @@ module _ (key : ℕ → Float) (fit : (i : ℕ) → T (fits binary64 (key i))) (
     level = λ i j d e. ⊎-elim (λ h. absurd (subst T d h)) (λ r. ⊎-elim (λ h. absurd (subst T e h)) (λ q. q) r) (before-total (key i) (key j) (fit i) (fit j) (number i) (number j));
   }
 
-  ahead : (a b x : Bool) → (a ≡ true → b ≡ true → ⊥) → cond a true (cond b false x) ≡ true → b ≡ true → ⊥
-  ahead true b x f e d = f refl d
-  ahead false true x f e d = clash e refl
-  ahead false false x f e d = clash d refl
+  not-behind : (i j : ℕ) → byKey before key i j ≡ true → before (key j) (key i) ≡ false
+  not-behind i j = go (before (key i) (key j)) (before (key j) (key i)) (keyed .one-way i j)
+    where
+      go : (s t : Bool) → (s ≡ true → t ≡ false) → cond s true (cond t false (leb i j)) ≡ true → t ≡ false
+      go true t f e = f refl
+      go false true f e = clash e refl
+      go false false f e = refl
 
-  not-behind : (i j : ℕ) → byKey before key i j ≡ true → T (le (key i) (key j))
-  not-behind i j e =
-      not-before-le (key i) (key j) (number i) (number j)
-      (λ d. ahead (before (key i) (key j)) (before (key j) (key i)) (leb i j) (λ p q. before-asym (key i) (key j) (holds p) (holds q)) e (is-true (before (key j) (key i)) d))
-
-  -- and sorted by it they never fall
-  pub sorted-up : (l : List ℕ) → Sorted (λ i j. T (le (key i) (key j))) (sortBy (byKey before key) l)
-  sorted-up l =
+  -- sorted by it, none is before an earlier one
+  pub sorted-before : (l : List ℕ) → Sorted (λ i j. before (key j) (key i) ≡ false) (sortBy (byKey before key) l)
+  sorted-before l =
       let o = by-key-strict before key keyed in
       sorted-map not-behind (sortBy (byKey before key) l) (sort-ordered (byKey before key) (o .total) (o .trans) l)
+
+  -- and they never fall
+  pub sorted-up : (l : List ℕ) → Sorted (λ i j. T (le (key i) (key j))) (sortBy (byKey before key) l)
+  sorted-up l = sorted-map (λ i j e. not-before-le (key i) (key j) (number i) (number j) (λ d. clash (is-true (before (key j) (key i)) d) e)) (sortBy (byKey before key) l) (sorted-before l)

@@ -1,9 +1,9 @@
--- Document 01's sheet of checks, K1 to K6, by computing; its fourth slip; and the refusals that it names for K1.
+-- Document 01's sheet of checks, K1 to K6, by computing; its fourth slip; the refusals that it names for K1; and request [2]'s two squares that touch.
 use mathlib.Core.Path.{_≡_, refl}
 use mathlib.Core.Bool.{true, false}
 use Prim.Native.Nat.{ℕ}
 use mathlib.Core.List.{List, [], _∷_}
-use lib.IntN.{pos, negsuc}
+use lib.IntN.{ℤ, pos, negsuc}
 use lib.Ieee.{Float, fin, add, sub, mul, div, neg, lt, le, eq, ofInt, round, toSigned, toUnsigned, toBits, size, odd, isNan}
 use Rattle.numbers.specs.Num.{literal, zero64}
 use Rattle.numbers.specs.Order.{negative, before, smaller, larger, magnitude, finite}
@@ -11,7 +11,8 @@ use Rattle.numbers.specs.Whole.{wholeOf, floor, ceil}
 use Rattle.numbers.specs.Root.{isqrt, nearRoot, rootUnits, root}
 use Rattle.geom.specs.declared.point.P.{P}
 use Rattle.geom.specs.Point.{point, len, dist, lerp}
-use Rattle.outlines.specs.declared.rule.FillRule.the-variants.{NonZero}
+use Rattle.outlines.specs.declared.rule.FillRule.{FillRule}
+use Rattle.outlines.specs.declared.rule.FillRule.the-variants.{NonZero, EvenOdd}
 use Rattle.geom.specs.Steps.{along}
 use Rattle.outlines.specs.Winding.{ring, winding}
 use Rattle.outlines.specs.Inside.{inside, pointInside}
@@ -21,6 +22,7 @@ use Rattle.refusal.specs.Refusal.{DONE, SETTING, WORK, ROOM}
 use Rattle.rules.specs.Fill.{goodSettings, gate, roomed, refusal}
 use Rattle.rules.specs.Calls.{sewnPoints, tatamiAnswer}
 use Rattle.rules.specs.declared.Settings.{Settings}
+use Rattle.rules.specs.declared.Entry.{Entry}
 use Rattle.rules.specs.Fill.{sidesTo, sides, edgeOf, keptSide, turned, edges, howMany, through, ymin, ymax, kLo, kHi, rowNumbers, rowAt, starts, lives, crossX, byX, crossed, dir, crossing, sameX, mergedFrom, merged, crossings, spans, shrink, pieceOf, minRow, wide, piecesAt, piecesOf, overlap, linkEnds, linkInside, connects, joined, joins, rowEntries, begun, entries, met, rowList, section, sections, cycle, remEuclid, offset, minEnd, m0, m1, needles, rowPoints, parts, between, sewFrom, sew, sewn, tatami}
 
 abbrev n : ℕ → Float
@@ -115,3 +117,42 @@ setting-first = refl
 pub none-done : tatamiAnswer [] [] NonZero (set 10 zero64) 1 false 0 0 0 0 ≡ DONE
 unfolding add sub mul div neg lt le eq ofInt round toSigned toUnsigned toBits size odd isNan literal negative before smaller larger magnitude wholeOf floor ceil isqrt nearRoot rootUnits root len dist lerp along Rattle.outlines.specs.Winding.edge Rattle.outlines.specs.Winding.edges ring winding inside pointInside sidesTo sides edgeOf keptSide turned edges howMany through ymin ymax kLo kHi rowNumbers rowAt starts lives crossX byX crossed dir crossing sameX mergedFrom merged crossings spans shrink pieceOf minRow wide piecesAt piecesOf overlap linkEnds linkInside connects joined joins rowEntries begun entries met rowList section sections cycle remEuclid offset minEnd m0 m1 needles rowPoints parts between sewFrom sew sewn tatami points cut rings rising largest within goodNumber goodNumbers goodSpacing goodLen goodInset goodTurn goodOutline goodSettings gate roomed refusal sewnPoints tatamiAnswer finite
 none-done = refl
+
+-- ---- request [2]: the row list of two squares that touch is that of their union, whichever is drawn first, whichever way each runs, under either rule
+
+-- 0..10 and 10..20, the second also the other way round
+abbrev left : List P
+left = pt 0 0 ∷ pt 10 0 ∷ pt 10 10 ∷ pt 0 10 ∷ []
+
+abbrev right : List P
+right = pt 10 0 ∷ pt 20 0 ∷ pt 20 10 ∷ pt 10 10 ∷ []
+
+abbrev back : List P
+back = pt 10 0 ∷ pt 10 10 ∷ pt 20 10 ∷ pt 20 0 ∷ []
+
+-- spacing 4, inset 2
+abbrev listed : List P → List P → FillRule → List Entry
+listed a b rule = rowList (a ∷ b ∷ []) rule (set 10 (n 2)) false
+
+-- one section of two rows from 2 to 18
+abbrev row : ℤ → ℕ → ℕ → Entry
+row k y nth = record { piece = record { k = k; y = n y; xa = n 2; xb = n 18 }; section = 0; nth = nth }
+
+abbrev one : List Entry
+one = row (pos 0) 2 0 ∷ row (pos 1) 6 1 ∷ []
+
+pub touching : (listed left right NonZero ≡ one) × (listed right left NonZero ≡ one)
+unfolding add sub mul div neg lt le eq ofInt round toSigned toBits size odd isNan literal negative before smaller larger magnitude wholeOf floor ceil lerp along Rattle.outlines.specs.Winding.edge Rattle.outlines.specs.Winding.edges ring winding inside pointInside sidesTo sides edgeOf keptSide turned edges howMany through ymin ymax kLo kHi rowNumbers rowAt starts lives crossX byX crossed dir crossing sameX mergedFrom merged crossings spans shrink pieceOf minRow wide piecesAt piecesOf overlap linkEnds linkInside connects joined joins rowEntries begun entries met rowList
+touching = (refl, refl)
+
+pub touching-even-odd : (listed left right EvenOdd ≡ one) × (listed right left EvenOdd ≡ one)
+unfolding add sub mul div neg lt le eq ofInt round toSigned toBits size odd isNan literal negative before smaller larger magnitude wholeOf floor ceil lerp along Rattle.outlines.specs.Winding.edge Rattle.outlines.specs.Winding.edges ring winding inside pointInside sidesTo sides edgeOf keptSide turned edges howMany through ymin ymax kLo kHi rowNumbers rowAt starts lives crossX byX crossed dir crossing sameX mergedFrom merged crossings spans shrink pieceOf minRow wide piecesAt piecesOf overlap linkEnds linkInside connects joined joins rowEntries begun entries met rowList
+touching-even-odd = (refl, refl)
+
+pub touching-opposite : (listed left back NonZero ≡ one) × (listed back left NonZero ≡ one)
+unfolding add sub mul div neg lt le eq ofInt round toSigned toBits size odd isNan literal negative before smaller larger magnitude wholeOf floor ceil lerp along Rattle.outlines.specs.Winding.edge Rattle.outlines.specs.Winding.edges ring winding inside pointInside sidesTo sides edgeOf keptSide turned edges howMany through ymin ymax kLo kHi rowNumbers rowAt starts lives crossX byX crossed dir crossing sameX mergedFrom merged crossings spans shrink pieceOf minRow wide piecesAt piecesOf overlap linkEnds linkInside connects joined joins rowEntries begun entries met rowList
+touching-opposite = (refl, refl)
+
+pub touching-opposite-even-odd : (listed left back EvenOdd ≡ one) × (listed back left EvenOdd ≡ one)
+unfolding add sub mul div neg lt le eq ofInt round toSigned toBits size odd isNan literal negative before smaller larger magnitude wholeOf floor ceil lerp along Rattle.outlines.specs.Winding.edge Rattle.outlines.specs.Winding.edges ring winding inside pointInside sidesTo sides edgeOf keptSide turned edges howMany through ymin ymax kLo kHi rowNumbers rowAt starts lives crossX byX crossed dir crossing sameX mergedFrom merged crossings spans shrink pieceOf minRow wide piecesAt piecesOf overlap linkEnds linkInside connects joined joins rowEntries begun entries met rowList
+touching-opposite-even-odd = (refl, refl)

@@ -9,6 +9,7 @@ pub mod FillSections
 pub mod Sweep
 pub mod SweepLaws
 pub mod Merged
+pub mod Gathered
 pub mod Accepted
 pub mod Edges
 pub mod Keys
@@ -20,3 +21,4 @@ pub mod Stitches
 pub mod Counts
 pub mod Theorems
 pub mod CallLaws
+pub mod Drawn

@@ -111,7 +111,7 @@ module _ (outline : List (List P)) (g : Settings) (cyc : ℕ) (ok : Checked outl
       })
       ab (spans-small rule k h))
 
-  met-fair : (b : Bool) → All Fair (met b (rowNumbers g (edges g outline)))
+  pub met-fair : (b : Bool) → All Fair (met b (rowNumbers g (edges g outline)))
   unfolding met
   met-fair true = all-reverse Fair (rowNumbers g (edges g outline)) (rows-fair outline g cyc ok)
   met-fair false = rows-fair outline g cyc ok

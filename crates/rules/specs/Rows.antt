@@ -37,6 +37,17 @@ use Rattle.rules.specs.Keys.{keyed, sorted-up}
 abbrev pub Fair : ℤ → Type 0
 Fair k = natAbs k ≤ 2 ^ 22
 
+-- what a crossing is worked out from
+abbrev pub Plain : Edge → Type 0
+Plain e = Within 19 (e .y0) × Within 19 (e .x0) × Within 50 (e .dxdy)
+
+pub plain-none : Plain noEdge
+unfolding Within
+plain-none = (zero-le, zero-le, zero-le)
+
+pub plain-good : (es : List Edge) → All Good es → All Plain es
+plain-good = all-map (λ e h. (h .y0, h .x0, h .dxdy))
+
 -- ---- top and bottom
 
 fold-has : (Q : Float → Type 0) (pick : Float → Float → Float) (key : Edge → Float) → ((x y : Float) → Q x → Q y → Q (pick x y)) → (es : List Edge) (z : Float) → All (λ e. Q (key e)) es → Q z → Q (fold (λ e y. pick y (key e)) z es)
@@ -144,21 +155,19 @@ module _ (outline : List (List P)) (g : Settings) (cyc : ℕ) (ok : Checked outl
 
   -- ---- the crossings of a row
 
-  Plain : Edge → Type 0
-  Plain e = Within 19 (e .y0) × Within 19 (e .x0) × Within 50 (e .dxdy)
-
   plain : (i : ℕ) → Plain (edge (edges g outline) i)
-  unfolding Plain Within
-  plain i = all-get Plain noEdge (zero-le, zero-le, zero-le) (edges g outline) (all-map (λ e h. (h .y0, h .x0, h .dxdy)) (edges g outline) (edges-good outline g cyc ok)) i
+  plain i = all-get Plain noEdge plain-none (edges g outline) (plain-good (edges g outline) (edges-good outline g cyc ok)) i
 
-  cross-within : (k : ℤ) → Fair k → (i : ℕ) → Within 85 (crossX (edges g outline) (rowAt g k) i)
-  unfolding crossX Plain
-  cross-within k h i =
-      let e = edge (edges g outline) i in
-      let p = plain i in
+  -- where an edge crosses a row
+  pub edge-within : (k : ℤ) → Fair k → (e : Edge) → Plain e → Within 85 (e .x0 ⊕ (rowAt g k ⊖ e .y0) ⊗ e .dxdy)
+  edge-within k h e p =
       let y = rowAt g k in
       within-add 84 (e .x0) ((y ⊖ e .y0) ⊗ e .dxdy) (lit≤ tt) (within-more 19 84 (e .x0) (lit≤ tt) (p .1))
       (within-mul 34 50 (y ⊖ e .y0) (e .dxdy) (lit≤ tt) (within-sub 33 y (e .y0) (lit≤ tt) (row-within k h) (within-more 19 33 (e .y0) (lit≤ tt) (p .0))) (p .2))
+
+  cross-within : (k : ℤ) → Fair k → (i : ℕ) → Within 85 (crossX (edges g outline) (rowAt g k) i)
+  unfolding crossX
+  cross-within k h i = edge-within k h (edge (edges g outline) i) (plain i)
 
   pub rows-strict : (k : ℤ) → Fair k → Strict (byX (edges g outline) (rowAt g k))
   unfolding byX crossX
@@ -177,7 +186,6 @@ module _ (outline : List (List P)) (g : Settings) (cyc : ℕ) (ok : Checked outl
   -- ---- the order in which the sweep takes up the edges
 
   start-number : (i : ℕ) → T (not (isNan (edge (edges g outline) i .y0)))
-  unfolding Plain
   start-number i = within-number 19 (edge (edges g outline) i .y0) (plain i .0)
 
   start-fits : (i : ℕ) → T (fits binary64 (edge (edges g outline) i .y0))
