@@ -17,13 +17,14 @@ use Rattle.numbers.specs.Order.{before, smaller, larger}
 use Rattle.numbers.specs.Whole.{floor, ceil}
 use Rattle.numbers.specs.Laws.{smaller-has, larger-has}
 use Rattle.seqs.specs.Lists.{upto, sift, each, fold, sortBy, All, Sorted}
-use Rattle.seqs.specs.Tests.{either, is-true, refute, clash}
+use Rattle.seqs.specs.Tests.{either, refute, clash}
 use Rattle.seqs.specs.All.{all-map, all-perm, all-sift}
 use Rattle.seqs.specs.Front.{next}
 use Rattle.seqs.specs.Front as front
 use Rattle.seqs.specs.Sift.{sift-map, sift-perm}
 use Rattle.seqs.specs.Sort.{sort-perm, perm-length}
 use Rattle.geom.specs.declared.point.P.{P}
+use Rattle.geom.specs.Outline.{rings}
 use Rattle.outlines.specs.declared.rule.FillRule.{FillRule}
 use Rattle.outlines.specs.Winding.{ring, winding}
 use Rattle.outlines.specs.Inside.{inside, pointInside}
@@ -31,14 +32,16 @@ use Rattle.rules.specs.declared.Settings.{Settings}
 use Rattle.rules.specs.declared.Edge.{Edge}
 use Rattle.rules.specs.declared.Piece.{Piece}
 use Rattle.rules.specs.declared.Entry.{Entry}
-use Rattle.rules.specs.Fill.{sides, keptSide, turned, edges, ymin, ymax, kLo, kHi, rowNumbers, rowAt, noEdge, edge, starts, lives, crossX, byX, crossed, dir, crossing, crossings, spans, pieceOf, wide, piecesAt, piecesOf, overlap, linkEnds, linkInside, connects, only, joined, joins, entry, after, rowEntries, begun, entries, met, rowList, sections, sewn, tatami}
+use Rattle.rules.specs.Fill.{sides, keptSide, turned, edges, ymin, ymax, kLo, kHi, rowNumbers, rowAt, noEdge, edge, starts, lives, crossX, byX, crossed, dir, crossing, crossings, spans, pieceOf, wide, piecesAt, piecesOf, overlap, linkEnds, linkInside, connects, only, joined, joins, entry, after, rowEntries, begun, entries, met, rowList, sections, sewn, tatami, roomed, refusal}
 use Rattle.rules.specs.Alls.{all-get, all-mapped, sorted-mapped}
-use Rattle.rules.specs.Accepted.{Checked}
+use Rattle.rules.specs.Accepted.{Accepted, Checked, checked}
 use Rattle.rules.specs.Edges.{Good, within-number, edges-good}
 use Rattle.rules.specs.Keys.{sorted-before}
 use Rattle.rules.specs.Gathered.{Number, Numbers, one-way, through, neither, add-swap, gathered, gathered-perm, merged-gathered}
 use Rattle.rules.specs.Rows.{Fair, Plain, plain-none, plain-good, edge-within}
 use Rattle.rules.specs.Pieces.{met-fair}
+use Rattle.rules.specs.Calls.{sewnFits, tatamiAnswer, listFits, rowListAnswer}
+use Rattle.rules.specs.CallLaws.{gate-through}
 
 -- ---- a row's crossings, by edge
 
@@ -275,3 +278,33 @@ module _ (outline : List (List P)) (g : Settings) (cyc : ℕ) (ok : Checked outl
     pub tatami-drawn : (stagger : ℕ) (bottomUp : Bool) → tatami outline rule g stagger bottomUp ≡ tatami other rule g stagger bottomUp
     unfolding tatami
     tatami-drawn stagger bottomUp = ap (λ es. map (sewn g stagger) (sections es)) (row-list-drawn bottomUp)
+
+-- ---- the calls: of two outlines that are accepted and have the same rings, in whatever order, the answers and the outputs are the same
+
+module _ (corners : List Float) (ends : List ℕ) (others : List Float) (stops : List ℕ) (g : Settings) (stagger : ℕ)
+    (accepted : Accepted corners ends g stagger) (too : Accepted others stops g stagger) (p : List·Permᴰ (rings corners ends) (rings others stops))
+    (rule : FillRule) (bottomUp : Bool) where
+  pub list-drawn : rowList (rings corners ends) rule g bottomUp ≡ rowList (rings others stops) rule g bottomUp
+  list-drawn = row-list-drawn (rings corners ends) g stagger (checked corners ends g stagger accepted) rule (rings others stops) p bottomUp
+
+  pub stitches-drawn : tatami (rings corners ends) rule g stagger bottomUp ≡ tatami (rings others stops) rule g stagger bottomUp
+  stitches-drawn = tatami-drawn (rings corners ends) g stagger (checked corners ends g stagger accepted) rule (rings others stops) p stagger bottomUp
+
+  roomed-drawn : (floats wholes : ℕ) (fits : Bool) → roomed corners ends rule g bottomUp floats wholes fits ≡ roomed others stops rule g bottomUp floats wholes fits
+  unfolding roomed
+  roomed-drawn floats wholes fits = rw (perm-length (edges-drawn g p), list-drawn)
+
+  refusal-drawn : (floats wholes : ℕ) (fits : Bool) → refusal corners ends rule g stagger bottomUp floats wholes fits ≡ refusal others stops rule g stagger bottomUp floats wholes fits
+  unfolding refusal
+  refusal-drawn floats wholes fits =
+      let one = roomed corners ends rule g bottomUp floats wholes fits in
+      let two = roomed others stops rule g bottomUp floats wholes fits in
+      gate-through corners ends g stagger one accepted ∙ roomed-drawn floats wholes fits ∙ sym (gate-through others stops g stagger two too)
+
+  pub tatami-answer-drawn : (floats wholes points sectionEnds : ℕ) → tatamiAnswer corners ends rule g stagger bottomUp floats wholes points sectionEnds ≡ tatamiAnswer others stops rule g stagger bottomUp floats wholes points sectionEnds
+  unfolding tatamiAnswer
+  tatami-answer-drawn floats wholes points sectionEnds = rw stitches-drawn (refusal-drawn floats wholes (sewnFits (tatami (rings others stops) rule g stagger bottomUp) points sectionEnds))
+
+  pub list-answer-drawn : (floats wholes ys rows numbers : ℕ) → rowListAnswer corners ends rule g stagger bottomUp floats wholes ys rows numbers ≡ rowListAnswer others stops rule g stagger bottomUp floats wholes ys rows numbers
+  unfolding rowListAnswer
+  list-answer-drawn floats wholes ys rows numbers = rw list-drawn (refusal-drawn floats wholes (listFits (length (rowList (rings others stops) rule g bottomUp)) ys rows numbers))

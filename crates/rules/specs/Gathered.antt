@@ -1,5 +1,5 @@
 -- Crossings put in one after the other, those of equal x added: the order in which they come doesn't matter, and merging them once they are sorted gives the same list. Assumes nothing.
-use mathlib.Core.Path.{_≡_, refl, sym, ap, subst, _∙_}
+use mathlib.Core.Path.{_≡_, refl, sym, ap, _∙_}
 use mathlib.Core.Bool.{Bool, true, false, not, cond}
 use mathlib.Core.Logic.{⊎-elim}
 use mathlib.Core.List.{List, [], _∷_, List·Permᴰ, List·Permᴰ·nil, List·Permᴰ·cons, List·Permᴰ·swap, List·Permᴰ·trans}
@@ -7,7 +7,7 @@ use lib.Dec.{T}
 use lib.IntN.{ℤ, _+ℤ_, +ℤ-comm, +ℤ-assoc}
 use lib.Ieee.{Float, binary64, fits, isNan, toBits, ofBits}
 use lib.Ieee.Bits.{ofBits-toBits}
-use borrow.Author.Tests.{eqb-true, eq-eqb, ne-eqb}
+use borrow.Author.Tests.{eq-eqb, ne-eqb}
 use Rattle.numbers.specs.Order.{before}
 use Rattle.numbers.specs.Laws.{before-irrefl, before-asym, before-trans, before-total, holds}
 use Rattle.seqs.specs.Lists.{All, Sorted}

@@ -120,6 +120,11 @@ none-done = refl
 
 -- ---- request [2]: the row list of two squares that touch is that of their union, whichever is drawn first, whichever way each runs, under either rule
 
+-- two that run the same way are one of twice the direction
+pub added : merged ((n 10, pos 1) ∷ (n 10, pos 1) ∷ (n 20, negsuc 0) ∷ []) ≡ (n 10, pos 2) ∷ (n 20, negsuc 0) ∷ []
+unfolding div ofInt round toBits size odd literal sameX mergedFrom merged
+added = refl
+
 -- 0..10 and 10..20, the second also the other way round
 abbrev left : List P
 left = pt 0 0 ∷ pt 10 0 ∷ pt 10 10 ∷ pt 0 10 ∷ []
