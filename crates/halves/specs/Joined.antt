@@ -1,10 +1,10 @@
 -- The old stitches are the two lists joined: where both halves answer DONE, the second told what the first said, `column` leaves the first list and then the second. Assumes nothing.
 use Prim.Native.Nat.{ℕ, suc, _+_, _*_, _≤_}
 use native.Mathlib.Omega.{arith}
-use mathlib.Core.Path.{_≡_, refl, _∙_}
+use mathlib.Core.Path.{_≡_, refl, sym, _∙_}
 use mathlib.Core.Bool.{Bool, true, false}
 use mathlib.Core.Logic.{inl, inr}
-use mathlib.Core.List.{List, _++_}
+use mathlib.Core.List.{List, [], _++_}
 use lib.Dec.{leb, eqb}
 use lib.ListN.{length, take, drop, length-append}
 use lib.Seq.{take-at}
@@ -21,10 +21,10 @@ use Rattle.satinrules.specs.declared.Satin.{Satin}
 use Rattle.satinrules.specs.Settings.{goodSatin}
 use Rattle.satinrules.specs.Pairs.{Rails, endsOf, few}
 use Rattle.satinrules.specs.Column.{underlay, farEnd, top, column}
-use Rattle.satinrules.specs.Calls.{railsOf, goodRails, underlaySteps, topSteps, passSteps, sized, mostOf, need, passed, columnRefusal, columnSewn, columnOutput}
-use Rattle.satinrules.specs.CallLaws.{answer-fitted}
+use Rattle.satinrules.specs.Calls.{railsOf, goodRails, underlaySteps, topSteps, passSteps, sized, most, mostOf, need, passed, columnRefusal, columnSewn, columnOutput}
+use Rattle.satinrules.specs.CallLaws.{most-left, most-right, answer-fitted, no-underlay, no-top}
 use Rattle.column.specs.Sized.{sizedAt}
-use Rattle.column.specs.SizedLaws.{sized-halves, most-halves}
+use Rattle.column.specs.SizedLaws.{sized-halves, halves-sized, most-halves}
 use Rattle.halves.specs.declared.Underlaid.{Underlaid}
 use Rattle.halves.specs.Answers.{underlaid, underlayRefusal, underlaySaid, underlayOutput, topRefusal, topSewn, topOutput}
 
@@ -95,6 +95,49 @@ module _ (a b sync : List Float) (g : Satin) (work : ℕ) where
             (sized-both rails g (was-sized rails (underlaySteps g) (underlay rails g) work room₁ e (under .2)) (was-sized rails (topSteps g) (top far rails g) work room₂ e over))
             (need-both rails g work (had-work rails (underlaySteps g) (underlay rails g) work room₁ e (under .2)) (had-work rails (topSteps g) (top far rails g) work room₂ e over))
             ∙ fit-done (column rails g) room fits
+
+-- ---- what is enough to work in for the column is enough for either half
+
+sized-each : (r : Rails) (g : Satin) → sized r (passSteps g) ≡ true → (sized r (underlaySteps g) ≡ true) × (sized r (topSteps g) ≡ true)
+unfolding sized sizedAt
+sized-each r g h = halves-sized (endsOf r) (r .sync) g h
+
+need-below : (r : Rails) (m n work : ℕ) → m ≤ n → need r n ≤ work → need r m ≤ work
+unfolding need
+need-below r m n work h k = omega (arith, h, k)
+
+no-room : (ps : List P) (room : ℕ) → ps ≡ [] → fitted ps room ≡ DONE
+unfolding fitted flat
+no-room ps room e = rw (e, le-leb 0 room (omega arith))
+
+module _ (a b sync : List Float) (g : Satin) (work room : ℕ) (h : columnRefusal a b sync g work room ≡ DONE) where
+  abbrev both : Rails
+  both = railsOf a b sync
+
+  whole : (goodRails a b sync ≡ DONE) × (unless SETTING (goodSatin g) ≡ DONE) × (passed both (passSteps g) (column both g) work room ≡ DONE)
+  unfolding columnRefusal
+  whole = let t = through (goodRails a b sync) _ h in let s = through (unless SETTING (goodSatin g)) _ (t .1) in (t .0, s .0, s .1)
+
+  module _ (some : few both ≡ false) where
+    each-sized : (sized both (underlaySteps g) ≡ true) × (sized both (topSteps g) ≡ true)
+    each-sized = sized-each both g (was-sized both (passSteps g) (column both g) work room some (whole .2))
+
+    the-need : need both (most (mostOf both (underlaySteps g)) (mostOf both (topSteps g))) ≤ work
+    the-need = rw (most-halves both g) at (had-work both (passSteps g) (column both g) work room some (whole .2))
+
+  pub under-alone : (room₁ : ℕ) → underlayRefusal a b sync g work room₁ ≡ fitted (underlay both g) room₁
+  unfolding underlayRefusal
+  under-alone room₁ = rw (whole .0, tested 2 (goodSatin g) (whole .1)) (elim (either (few both)) [
+    | inl e ↦ few-done both (underlaySteps g) (underlay both g) work room₁ e ∙ sym (no-room (underlay both g) room₁ (no-underlay both g e))
+    | inr e ↦ answer-fitted both (underlaySteps g) (underlay both g) work room₁ e (each-sized e .0) (need-below both _ _ work (most-left (mostOf both (underlaySteps g)) (mostOf both (topSteps g))) (the-need e))
+  ])
+
+  pub top-alone : (room₂ : ℕ) (far : Bool) → topRefusal a b sync g far work room₂ ≡ fitted (top far both g) room₂
+  unfolding topRefusal
+  top-alone room₂ far = rw (whole .0, tested 2 (goodSatin g) (whole .1)) (elim (either (few both)) [
+    | inl e ↦ few-done both (topSteps g) (top far both g) work room₂ e ∙ sym (no-room (top far both g) room₂ (no-top both g e far))
+    | inr e ↦ answer-fitted both (topSteps g) (top far both g) work room₂ e (each-sized e .1) (need-below both _ _ work (most-right (mostOf both (underlaySteps g)) (mostOf both (topSteps g))) (the-need e))
+  ])
 
 -- ---- what the calls leave
 
