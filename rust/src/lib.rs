@@ -16,7 +16,9 @@ pub use fill::{FillParams, Piece, row_list, tatami};
 pub use line::running;
 pub use pattern::{bounds, clip_inside, cross_stitch};
 pub use refusal::Refusal;
-pub use satin::{Rails, SatinParams, SatinStyle, column, pairs, s_stitch, split_long};
+pub use satin::{
+    Rails, SatinParams, SatinStyle, column, pairs, s_stitch, split_long, top, underlay,
+};
 
 /// A point, in units of 0.1 mm.
 #[derive(Clone, Copy, Debug, Default, PartialEq)]
