@@ -39,6 +39,10 @@ uint64_t beahcerot_pairs_room(const double *a, size_t a_len, const double *b, si
 
 uint64_t beahcerot_column(const double *a, size_t a_len, const double *b, size_t b_len, const double *sync, size_t sync_len, double spacing, double pull, uint64_t underlay, double run_len, bool short_stitches, double split, uint64_t style, double *work, size_t work_len, double *out, size_t out_len, uint64_t *count);
 
+uint64_t beahcerot_underlay(const double *a, size_t a_len, const double *b, size_t b_len, const double *sync, size_t sync_len, double spacing, double pull, uint64_t underlay, double run_len, bool short_stitches, double split, uint64_t style, double *work, size_t work_len, double *out, size_t out_len, uint64_t *count, bool *far);
+
+uint64_t beahcerot_top(const double *a, size_t a_len, const double *b, size_t b_len, const double *sync, size_t sync_len, double spacing, double pull, uint64_t underlay, double run_len, bool short_stitches, double split, uint64_t style, bool far, double *work, size_t work_len, double *out, size_t out_len, uint64_t *count);
+
 uint64_t beahcerot_column_room(const double *a, size_t a_len, const double *b, size_t b_len, const double *sync, size_t sync_len, double spacing, double pull, uint64_t underlay, double run_len, bool short_stitches, double split, uint64_t style, uint64_t *floats);
 
 uint64_t beahcerot_tatami(const double *corners, size_t corners_len, const size_t *ends, size_t ends_len, uint64_t rule, double spacing, double len, double inset, double pull, double cosine, double sine, uint64_t stagger, bool upward, double *floats, size_t floats_len, size_t *wholes, size_t wholes_len, double *points, size_t points_len, size_t *stops, size_t stops_len, uint64_t *sections, uint64_t *count);

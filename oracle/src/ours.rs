@@ -436,9 +436,9 @@ pub mod patterns {
 pub mod satin {
     use super::raw::{
         beahcerot_column, beahcerot_column_room, beahcerot_pairs, beahcerot_pairs_room,
-        beahcerot_s_stitch, beahcerot_split_long,
+        beahcerot_s_stitch, beahcerot_split_long, beahcerot_top, beahcerot_underlay,
     };
-    use crate::inputs::rails::{Column, Matched, Path, Rails};
+    use crate::inputs::rails::{Column, Matched, Path, Rails, Top};
 
     pub fn split_long(p: &Path, out: &mut [f64], count: &mut u64) -> u64 {
         let (line, room) = (&p.line, out.len());
@@ -542,6 +542,71 @@ pub mod satin {
                 c.short_stitches,
                 c.split,
                 c.style,
+                work.as_mut_ptr(),
+                work.len(),
+                out.as_mut_ptr(),
+                out.len(),
+                count,
+            )
+        }
+    }
+
+    /// `far` is looked at as the byte that it is, so that one which is neither 0 nor 1 is seen.
+    pub fn underlay(
+        c: &Column,
+        work: &mut [f64],
+        out: &mut [f64],
+        count: &mut u64,
+        far: &mut u64,
+    ) -> u64 {
+        let Rails { a, b, sync } = &c.rails;
+        let mut byte = 0x5au8;
+        let answer = unsafe {
+            beahcerot_underlay(
+                a.as_ptr(),
+                a.len(),
+                b.as_ptr(),
+                b.len(),
+                sync.as_ptr(),
+                sync.len(),
+                c.spacing,
+                c.pull,
+                c.underlay,
+                c.run_len,
+                c.short_stitches,
+                c.split,
+                c.style,
+                work.as_mut_ptr(),
+                work.len(),
+                out.as_mut_ptr(),
+                out.len(),
+                count,
+                (&raw mut byte).cast(),
+            )
+        };
+        *far = byte.into();
+        answer
+    }
+
+    pub fn top(t: &Top, work: &mut [f64], out: &mut [f64], count: &mut u64) -> u64 {
+        let c = &t.column;
+        let Rails { a, b, sync } = &c.rails;
+        unsafe {
+            beahcerot_top(
+                a.as_ptr(),
+                a.len(),
+                b.as_ptr(),
+                b.len(),
+                sync.as_ptr(),
+                sync.len(),
+                c.spacing,
+                c.pull,
+                c.underlay,
+                c.run_len,
+                c.short_stitches,
+                c.split,
+                c.style,
+                t.far,
                 work.as_mut_ptr(),
                 work.len(),
                 out.as_mut_ptr(),

@@ -18,7 +18,9 @@ pub use line::running;
 pub use mending::{Dropped, Reason, salvage};
 pub use pattern::{bounds, clip_inside, cross_stitch};
 pub use refusal::Refusal;
-pub use satin::{Rails, SatinParams, SatinStyle, column, pairs, s_stitch, split_long};
+pub use satin::{
+    Rails, SatinParams, SatinStyle, column, pairs, s_stitch, split_long, top, underlay,
+};
 
 /// A point, in units of 0.1 mm.
 #[derive(Clone, Copy, Debug, Default, PartialEq)]

@@ -2,7 +2,7 @@
 
 use crate::raw::{
     beahcerot_column, beahcerot_column_room, beahcerot_pairs, beahcerot_pairs_room,
-    beahcerot_s_stitch, beahcerot_split_long,
+    beahcerot_s_stitch, beahcerot_split_long, beahcerot_top, beahcerot_underlay,
 };
 use crate::room::{Room, sewn, sewn_along};
 use crate::{P, Polyline, Refusal, flat};
@@ -105,16 +105,18 @@ pub fn pairs(r: &Rails, step: f64) -> Result<Vec<(P, P)>, Refusal> {
     Ok(both.chunks_exact(2).map(|c| (c[0], c[1])).collect())
 }
 
-/// A satin column: underlay, then the top.
-pub fn column(r: &Rails, p: &SatinParams) -> Result<Polyline, Refusal> {
-    // 0 is how the library is told that there is no split, so a given 0 is a setting outside its range.
-    let split = match p.split {
-        None => 0.0,
-        Some(0.0) => return Err(Refusal::Setting),
-        Some(max) => max,
-    };
-    let f = Flat::of(r);
-    let room = Room::said(|floats| unsafe {
+/// The number that the library is told for a split: 0 is none, so a given 0 is a setting outside its range.
+fn split_number(p: &SatinParams) -> Result<f64, Refusal> {
+    match p.split {
+        None => Ok(0.0),
+        Some(0.0) => Err(Refusal::Setting),
+        Some(max) => Ok(max),
+    }
+}
+
+/// Room that is enough for a whole column, and so for either half of it.
+fn column_room(f: &Flat, p: &SatinParams, split: f64) -> Result<Room, Refusal> {
+    Room::said(|floats| unsafe {
         beahcerot_column_room(
             f.a.as_ptr(),
             f.a.len(),
@@ -131,8 +133,19 @@ pub fn column(r: &Rails, p: &SatinParams) -> Result<Polyline, Refusal> {
             p.style.number(),
             floats,
         )
-    })?;
-    sewn(room, |work, out, count| unsafe {
+    })
+}
+
+/// Room for a half to begin with: where a whole column is refused, one half may still be sewn.
+fn half_room(f: &Flat, p: &SatinParams, split: f64) -> Room {
+    column_room(f, p, split).unwrap_or(Room::output(0))
+}
+
+/// A satin column: underlay, then the top.
+pub fn column(r: &Rails, p: &SatinParams) -> Result<Polyline, Refusal> {
+    let split = split_number(p)?;
+    let f = Flat::of(r);
+    sewn(column_room(&f, p, split)?, |work, out, count| unsafe {
         beahcerot_column(
             f.a.as_ptr(),
             f.a.len(),
@@ -147,6 +160,66 @@ pub fn column(r: &Rails, p: &SatinParams) -> Result<Polyline, Refusal> {
             p.short_stitches,
             split,
             p.style.number(),
+            work.as_mut_ptr(),
+            work.len(),
+            out.as_mut_ptr(),
+            out.len(),
+            count,
+        )
+    })
+}
+
+/// The underlay of a satin column, and whether the thread ends at the far end, which [`top`] is told.
+pub fn underlay(r: &Rails, p: &SatinParams) -> Result<(Polyline, bool), Refusal> {
+    let split = split_number(p)?;
+    let f = Flat::of(r);
+    let mut far = false;
+    let under = sewn(half_room(&f, p, split), |work, out, count| unsafe {
+        beahcerot_underlay(
+            f.a.as_ptr(),
+            f.a.len(),
+            f.b.as_ptr(),
+            f.b.len(),
+            f.sync.as_ptr(),
+            f.sync.len(),
+            p.spacing,
+            p.pull,
+            p.underlay.into(),
+            p.run_len,
+            p.short_stitches,
+            split,
+            p.style.number(),
+            work.as_mut_ptr(),
+            work.len(),
+            out.as_mut_ptr(),
+            out.len(),
+            count,
+            &mut far,
+        )
+    })?;
+    Ok((under, far))
+}
+
+/// The top of a satin column, turned round where the thread is at the far end.
+pub fn top(r: &Rails, p: &SatinParams, far: bool) -> Result<Polyline, Refusal> {
+    let split = split_number(p)?;
+    let f = Flat::of(r);
+    sewn(half_room(&f, p, split), |work, out, count| unsafe {
+        beahcerot_top(
+            f.a.as_ptr(),
+            f.a.len(),
+            f.b.as_ptr(),
+            f.b.len(),
+            f.sync.as_ptr(),
+            f.sync.len(),
+            p.spacing,
+            p.pull,
+            p.underlay.into(),
+            p.run_len,
+            p.short_stitches,
+            split,
+            p.style.number(),
+            far,
             work.as_mut_ptr(),
             work.len(),
             out.as_mut_ptr(),

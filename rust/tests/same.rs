@@ -179,6 +179,23 @@ fn column_and_its_parts_are_zigzags() {
             bits(&ours::column(&rails, &p).unwrap()),
             their_bits(&satin::column(&their_rails, &their_p))
         );
+        let (under, far) = ours::underlay(&rails, &p).unwrap();
+        let (their_under, their_far) = satin::underlay(&their_rails, &their_p);
+        assert_eq!(bits(&under), their_bits(&their_under));
+        // zigzag turns the end for passes of no point too.
+        let thread = rails.a.len() >= 2 && rails.b.len() >= 2;
+        assert_eq!(far, their_far && thread);
+        let top = ours::top(&rails, &p, far).unwrap();
+        assert_eq!(
+            bits(&[under, top].concat()),
+            bits(&ours::column(&rails, &p).unwrap())
+        );
+        for far in [false, true] {
+            assert_eq!(
+                bits(&ours::top(&rails, &p, far).unwrap()),
+                their_bits(&satin::top(&their_rails, &their_p, far))
+            );
+        }
         let pairs = ours::pairs(&rails, p.spacing).unwrap();
         let their_pairs = satin::pairs(&their_rails, p.spacing);
         let flat: Vec<ours::P> = pairs.iter().flat_map(|&(a, b)| [a, b]).collect();
@@ -199,6 +216,30 @@ fn column_and_its_parts_are_zigzags() {
         points > 10_000,
         "only {points} points of pairs were compared"
     );
+}
+
+/// A top of over 65,536 pairs is refused; the underlay beneath it is not.
+#[test]
+fn a_half_is_sewn_where_the_column_is_too_large() {
+    let line = |y| [0.0, 40_000.0].map(|x| ours::P { x, y }).to_vec();
+    let rails = ours::Rails {
+        a: line(0.0),
+        b: line(40.0),
+        sync: vec![],
+    };
+    let p = ours::SatinParams {
+        spacing: 0.5,
+        pull: 0.0,
+        underlay: 1,
+        run_len: 40.0,
+        short_stitches: false,
+        split: None,
+        style: ours::SatinStyle::Plain,
+    };
+    assert_eq!(ours::column(&rails, &p), Err(ours::Refusal::Size));
+    assert_eq!(ours::top(&rails, &p, true), Err(ours::Refusal::Size));
+    let (under, far) = ours::underlay(&rails, &p).unwrap();
+    assert_eq!((under.len(), far), (1001, true));
 }
 
 #[test]

@@ -39,6 +39,8 @@ use Rattle.exports.proofs.border.beahcerot_s_stitch
 use Rattle.exports.proofs.border.beahcerot_pairs
 use Rattle.exports.proofs.border.beahcerot_pairs_room
 use Rattle.exports.proofs.border.beahcerot_column
+use Rattle.exports.proofs.border.beahcerot_underlay
+use Rattle.exports.proofs.border.beahcerot_top
 use Rattle.exports.proofs.border.beahcerot_column_room
 use Rattle.exports.proofs.pattern.beahcerot_bounds
 use Rattle.exports.proofs.pattern.beahcerot_clip_inside
@@ -172,6 +174,12 @@ pairs-room-entry κs a x y h k = both (one (h .0) (k .0)) (λ i. (tt, (tt, (tt, 
 
 pub column-entry : One beahcerot_column.ended beahcerot_column.Reads.Learnt
 column-entry κs a x y h k = both (one (h .0) (k .0)) (λ i. (tt, (tt, (tt, (tt, (tt, (tt, (tt, (tt, (tt, (tt, (one (h .3) (k .3) i, (one (h .2) (k .2) i, (one (h .1) (k .1) i, tt))))))))))))))
+
+pub underlay-entry : One beahcerot_underlay.ended beahcerot_underlay.Reads.Learnt
+underlay-entry κs a x y h k = both (one (h .0) (k .0)) (λ i. (tt, (tt, (tt, (tt, (tt, (tt, (tt, (tt, (tt, (tt, (one (h .4) (k .4) i, (one (h .3) (k .3) i, (one (h .1) (k .1) i, (one (h .2) (k .2) i, tt)))))))))))))))
+
+pub top-entry : One beahcerot_top.ended beahcerot_top.Reads.Learnt
+top-entry κs a x y h k = both (one (h .0) (k .0)) (λ i. (tt, (tt, (tt, (tt, (tt, (tt, (tt, (tt, (tt, (tt, (tt, (one (h .3) (k .3) i, (one (h .2) (k .2) i, (one (h .1) (k .1) i, tt)))))))))))))))
 
 pub column-room-entry : One beahcerot_column_room.ended beahcerot_column_room.Reads.Learnt
 column-room-entry κs a x y h k = both (one (h .0) (k .0)) (λ i. (tt, (tt, (tt, (tt, (tt, (tt, (tt, (tt, (tt, (tt, (one (h .1) (k .1) i, tt))))))))))))

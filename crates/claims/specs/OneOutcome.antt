@@ -51,6 +51,8 @@ use Rattle.satin.proofs.pairs
 use Rattle.satin.proofs.split_long
 use Rattle.satin.proofs.s_stitch
 use Rattle.column.proofs.column
+use Rattle.halves.proofs.underlay
+use Rattle.halves.proofs.top
 use Rattle.satinroom.proofs.pairs_room
 use Rattle.satinroom.proofs.column_room
 use Rattle.patterns.proofs.bounds
@@ -202,6 +204,13 @@ s-stitch-outcome κs a x y h k = both (one (h .0) (k .0)) (λ i. (tt, (one (h .1
 
 pub column-outcome : One column.ended column.Reads.Learnt
 column-outcome κs a x y h k = both (one (h .0) (k .0)) (λ i. (tt, (tt, (tt, (tt, (one (h .2) (k .2) i, (one (h .1) (k .1) i, tt)))))))
+
+-- the two halves of a column (document 02)
+pub underlay-outcome : One underlay.ended underlay.Reads.Learnt
+underlay-outcome κs a x y h k = both (one (h .0) (k .0)) (λ i. (tt, (tt, (tt, (tt, (one (h .2) (k .2) i, (one (h .1) (k .1) i, tt)))))))
+
+pub top-outcome : One top.ended top.Reads.Learnt
+top-outcome κs a x y h k = both (one (h .0) (k .0)) (λ i. (tt, (tt, (tt, (tt, (tt, (one (h .2) (k .2) i, (one (h .1) (k .1) i, tt))))))))
 
 pub pairs-room-outcome : One pairs_room.ended pairs_room.Reads.Learnt
 pairs-room-outcome κs a x y h k = both (one h k) refl

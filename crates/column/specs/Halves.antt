@@ -14,17 +14,22 @@ use Rattle.satinrules.specs.Column.{bit, spacingOf, stitches, column}
 use Rattle.satinrules.specs.Calls.{railsOf, passSteps, passed}
 use Rattle.satin.specs.Underlay.{Fit, runs}
 use Rattle.column.specs.declared.sized.Passes.{Passes}
+use Rattle.column.specs.declared.sized.Under.{Under}
 
--- the passes that are sewn are those of the settings, few enough, and a working slice of so many numbers has room for each
+-- the underlay's passes that are sewn are those of the settings, few enough, and a working slice of so many numbers has room for each
+pub record UnderReady (a b sync : List Float) (g : Satin) (ends : P) (u : Under) (work : ℕ) : Type 0 where
+  pub run : runs g ≡ true → Fit a b sync (g .«run_len») ends (u .run) (u .n)
+  pub zigzag : bit g 4 ≡ true → Fit a b sync zigzagUnderlaySpacing ends (u .zigzag) (u .m)
+  pub smallN : u .n ≤ 65537
+  pub smallM : u .m ≤ 65537
+  pub roomN : 8 * u .n ≤ work
+  pub roomM : 8 * u .m ≤ work
+
+-- and so is the top's
 pub record Ready (a b sync : List Float) (g : Satin) (ends : P) (p : Passes) (work : ℕ) : Type 0 where
-  pub run : runs g ≡ true → Fit a b sync (g .«run_len») ends (p .run) (p .n)
-  pub zigzag : bit g 4 ≡ true → Fit a b sync zigzagUnderlaySpacing ends (p .zigzag) (p .m)
+  pub under : UnderReady a b sync g ends (p .under) work
   pub top : Fit a b sync (spacingOf g) ends (p .top) (p .t)
-  pub smallN : p .n ≤ 65537
-  pub smallM : p .m ≤ 65537
   pub smallT : p .t ≤ 65537
-  pub roomN : 8 * p .n ≤ work
-  pub roomM : 8 * p .m ≤ work
   pub roomT : 8 * p .t ≤ work
 
 -- the top's stitches, and where they stand in the working slice

@@ -2,7 +2,7 @@
 use Prim.Native.Nat.{ℕ, _+_, _-_, _*_, _≤_, _<_}
 use native.Mathlib.Omega.{arith}
 use mathlib.Core.Path.{_≡_, sym, ap, _∙_}
-use mathlib.Core.Bool.{true, false}
+use mathlib.Core.Bool.{Bool, true, false}
 use mathlib.Core.Logic.{inl, inr}
 use mathlib.Core.List.{List, [], _++_, append-assoc}
 use lib.Dec.{leb}
@@ -21,36 +21,48 @@ use Rattle.geom.specs.Sewing.{flat, fitted}
 use Rattle.geom.specs.SewingLaws.{flat-length, flat-append, points-flat}
 use Rattle.satinrules.specs.declared.Satin.{Satin}
 use Rattle.satinrules.specs.Pairs.{endsOf, few, pairs}
-use Rattle.satinrules.specs.Column.{spacingOf, stitches, underlay, top, column}
-use Rattle.satinrules.specs.Calls.{railsOf, passSteps, sized, most, mostOf, need, worked}
+use Rattle.satinrules.specs.Column.{afterZigzag, farEnd, spacingOf, stitches, styled, underlay, top, column}
+use Rattle.satinrules.specs.Calls.{railsOf, underlaySteps, passSteps, sized, mostOf, need, worked}
 use Rattle.satin.specs.Underlay.{underlayCount}
-use Rattle.satinrules.specs.CallLaws.{most-left, most-right, answer-size, answer-work, answer-fitted}
+use Rattle.satinrules.specs.CallLaws.{far-is, most-left, most-right, answer-size, answer-work, answer-fitted}
 use Rattle.passes.specs.Threads.{pairsIn}
+use Rattle.satin.specs.PassedLaws.{need-room}
 use Rattle.satin.specs.UnderlayLaws.{underlay-count, run-size, fit-laid, fit-stitches}
 use Rattle.column.specs.declared.sized.Passes.{Passes}
-use Rattle.column.specs.Sized.{sizedAt, passesOf, mostIn, topLaid}
-use Rattle.column.specs.SizedLaws.{most-small, run-fit, zigzag-fit, top-fit, run-room, zigzag-room, top-room}
+use Rattle.column.specs.declared.sized.Under.{Under}
+use Rattle.column.specs.Sized.{sizedAt, underOf, passesOf, mostUnder, mostIn, topLaid}
+use Rattle.column.specs.SizedLaws.{underlay-small, most-small, halves-sized, run-fit, zigzag-fit, under-is, passes-top, run-room, zigzag-room}
 use Rattle.column.specs.Topping.{topOf}
-use Rattle.column.specs.ToppingLaws.{top-is}
-use Rattle.column.specs.Halves.{Ready, pathIn, topPath, columnPassed}
+use Rattle.column.specs.ToppingLaws.{top-is, top-length}
+use Rattle.column.specs.Halves.{UnderReady, Ready, pathIn, topPath, columnPassed}
 
 -- ---- what is asked for
+
+-- the underlay's passes that were worked out, where the working slice holds the most of them twice
+pub under-ready : (a b sync : List Float) (g : Satin) {ends : P} (e : ends ≡ endsOf (railsOf a b [])) (some : few (railsOf a b sync) ≡ false) {u : Under} (f : u ≡ underOf ends (points sync) g)
+    → sizedAt ends (points sync) (underlaySteps g) ≡ true → (work : ℕ) → 8 * mostUnder u ≤ work → UnderReady a b sync g ends u work
+under-ready a b sync g {ends} e some {u} f ok work h =
+    let small : mostUnder u ≤ 65537 = rw f (underlay-small ends (points sync) g ok) in
+    record {
+      run = run-fit a b sync g e some f ok;
+      zigzag = zigzag-fit a b sync g e some f ok;
+      smallN = omega (arith, small, most-left (u .n) (u .m));
+      smallM = omega (arith, small, most-right (u .n) (u .m));
+      roomN = run-room u work h;
+      roomM = zigzag-room u work h;
+    }
 
 -- the passes that were worked out, where the working slice is of the need
 pub ready : (a b sync : List Float) (g : Satin) {ends : P} (e : ends ≡ endsOf (railsOf a b [])) (some : few (railsOf a b sync) ≡ false) {p : Passes} (f : p ≡ passesOf ends (points sync) g)
     → sizedAt ends (points sync) (passSteps g) ≡ true → (work : ℕ) → need (railsOf a b sync) (mostIn p) ≤ work → Ready a b sync g ends p work
 ready a b sync g {ends} e some {p} f ok work h =
     let small : mostIn p ≤ 65537 = rw f (most-small ends (points sync) g ok) in
+    let room : 8 * mostIn p ≤ work = need-room a b sync (mostIn p) work h in
     record {
-      run = run-fit a b sync g e some f ok;
-      zigzag = zigzag-fit a b sync g e some f ok;
-      top = top-fit a b sync g e some f ok;
-      smallN = omega (arith, small, most-left (p .n) (p .m), most-left (most (p .n) (p .m)) (p .t));
-      smallM = omega (arith, small, most-right (p .n) (p .m), most-left (most (p .n) (p .m)) (p .t));
-      smallT = omega (arith, small, most-right (most (p .n) (p .m)) (p .t));
-      roomN = run-room a b sync p work h;
-      roomM = zigzag-room a b sync p work h;
-      roomT = top-room a b sync p work h;
+      under = under-ready a b sync g e some (under-is a b sync g e some f ok) (halves-sized ends (points sync) g ok .0) work (omega (arith, room, most-left (mostUnder (p .under)) (p .t)));
+      top = passes-top a b sync g e some f ok;
+      smallT = omega (arith, small, most-right (mostUnder (p .under)) (p .t));
+      roomT = omega (arith, room, most-right (mostUnder (p .under)) (p .t));
     }
 
 pub ready-same : {a b sync : List Float} {g : Satin} {ends : P} {p : Passes} {n m : ℕ} → Ready a b sync g ends p n → m ≡ n → Ready a b sync g ends p m
@@ -77,41 +89,50 @@ put-before d d₁ y a b k at h e f =
 
 -- ---- both halves, over the path s of the top's stitches
 
-module _ {a b sync : List Float} {g : Satin} {ends : P} {p : Passes} {work : ℕ} (w : Ready a b sync g ends p work) (s : List Float) (e : s ≡ topPath a b sync g) (u : ℕ) (at : u ≡ underlayCount g (p .n) (p .m)) where
-  path-top : topOf g (points s) ≡ top (railsOf a b sync) g
-  path-top = ap (λ (l : List Float). topOf g (points l)) e ∙ ap (topOf g) (points-flat (stitches g (pairs (railsOf a b sync) (spacingOf g)))) ∙ sym (top-is (railsOf a b sync) g)
+-- the top over that path
+pub path-top : (a b sync : List Float) (g : Satin) (far : Bool) (s : List Float) → s ≡ topPath a b sync g → topOf far g (points s) ≡ top far (railsOf a b sync) g
+path-top a b sync g far s e = ap (λ (l : List Float). topOf far g (points l)) e ∙ ap (topOf far g) (points-flat (stitches g (pairs (railsOf a b sync) (spacingOf g)))) ∙ sym (top-is far (railsOf a b sync) g)
+
+module _ {a b sync : List Float} {g : Satin} {ends : P} {p : Passes} {work : ℕ} (w : Ready a b sync g ends p work) (s : List Float) (e : s ≡ topPath a b sync g) (u : ℕ) (at : u ≡ underlayCount g (p .under .n) (p .under .m)) where
+  -- the far end, on rails that were accepted
+  far : afterZigzag g ≡ farEnd (railsOf a b sync) g
+  far = sym (far-is (railsOf a b sync) g (w .top .some))
+
+  on-top : topOf (afterZigzag g) g (points s) ≡ top (farEnd (railsOf a b sync) g) (railsOf a b sync) g
+  on-top = path-top a b sync g (afterZigzag g) s e ∙ ap (λ (f : Bool). top f (railsOf a b sync) g) far
 
   under : length (underlay (railsOf a b sync) g) ≡ u
-  under = underlay-count g (w .run) (w .zigzag) ∙ sym at
+  under = underlay-count g (w .under .run) (w .under .zigzag) ∙ sym at
 
-  both-length : length (column (railsOf a b sync) g) ≡ u + length (topOf g (points s))
+  both-length : length (column (railsOf a b sync) g) ≡ u + length (topOf (afterZigzag g) g (points s))
   unfolding column
-  both-length = omega (arith, length-append (underlay (railsOf a b sync) g) (top (railsOf a b sync) g), under, ap length path-top)
+  both-length = omega (arith, length-append (underlay (railsOf a b sync) g) (top (farEnd (railsOf a b sync) g) (railsOf a b sync) g), under, ap length on-top)
 
-  pub both-count : (room : ℕ) {k r : ℕ} → k ≡ capped room (length (topOf g (points s))) → r ≡ capped room (k + u) → r ≡ capped room (length (column (railsOf a b sync) g))
+  pub both-count : (room : ℕ) {k r : ℕ} → k ≡ capped room (length (styled (g .split) (g .style) (points s))) → r ≡ capped room (k + u) → r ≡ capped room (length (column (railsOf a b sync) g))
   both-count room f h =
-      let q : length (topOf g (points s)) + u ≡ length (column (railsOf a b sync) g) = omega (arith, both-length) in
-      h ∙ ap (λ (j : ℕ). capped room (j + u)) f ∙ capped-on room (length (topOf g (points s))) u ∙ ap (capped room) q
+      let n = length (styled (g .split) (g .style) (points s)) in
+      let q : n + u ≡ length (column (railsOf a b sync) g) = omega (arith, both-length, top-length (afterZigzag g) g (points s)) in
+      h ∙ ap (λ (j : ℕ). capped room (j + u)) f ∙ capped-on room n u ∙ ap (capped room) q
 
-  module _ (d : List Float) (fits : 2 * length (column (railsOf a b sync) g) ≤ length d) where
-    pub behind-room : 2 * u + 2 * length (topOf g (points s)) ≤ length d
-    behind-room = omega (arith, fits, both-length)
+  module _ {f : Bool} (q : f ≡ afterZigzag g) (d : List Float) (fits : 2 * length (column (railsOf a b sync) g) ≤ length d) where
+    pub behind-room : 2 * u + 2 * length (topOf f g (points s)) ≤ length d
+    behind-room = rw q (omega (arith, fits, both-length))
 
-    module _ (d₁ : List Float) (f : d₁ ≡ put d (2 * u) (flat (topOf g (points s)))) where
+    module _ (d₁ : List Float) (h : d₁ ≡ put d (2 * u) (flat (topOf f g (points s)))) where
       behind-size : length d₁ ≡ length d
-      behind-size = run-size d d₁ (topOf g (points s)) (2 * u) behind-room f
+      behind-size = run-size d d₁ (topOf f g (points s)) (2 * u) behind-room h
 
       pub before-room : 2 * length (underlay (railsOf a b sync) g) ≤ length d₁
       before-room = omega (arith, behind-room, behind-size, under)
 
       pub halves-put : (y : List Float) → y ≡ put d₁ 0 (flat (underlay (railsOf a b sync) g)) → y ≡ put d 0 (flat (column (railsOf a b sync) g))
       unfolding column
-      halves-put y h =
-          let l = flat (underlay (railsOf a b sync) g) in
-          let m = flat (top (railsOf a b sync) g) in
-          let k : d₁ ≡ put d (2 * u) m = f ∙ ap (λ (t : List P). put d (2 * u) (flat t)) path-top in
-          put-before d d₁ y l m (2 * u) (omega (arith, under, flat-length (underlay (railsOf a b sync) g))) (omega (arith, behind-room, flat-length (top (railsOf a b sync) g), ap length path-top)) k h
-          ∙ ap (put d 0) (sym (flat-append (underlay (railsOf a b sync) g) (top (railsOf a b sync) g)))
+      halves-put y k =
+          let r = railsOf a b sync in
+          let t = top (farEnd r g) r g in
+          let is : topOf f g (points s) ≡ t = rw q on-top in
+          put-before d d₁ y (flat (underlay r g)) (flat t) (2 * u) (omega (arith, under, flat-length (underlay r g))) (omega (arith, behind-room, flat-length t, ap length is)) (h ∙ ap (λ (l : List P). put d (2 * u) (flat l)) is) k
+          ∙ ap (put d 0) (sym (flat-append (underlay r g) t))
 
 -- ---- which answer it is
 

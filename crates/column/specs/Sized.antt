@@ -20,6 +20,7 @@ use Rattle.pairing.specs.Walk.{passOf, walkPlaces}
 use Rattle.pairing.specs.Store.{storedPairs}
 use Rattle.satin.specs.Underlay.{runs}
 use Rattle.column.specs.declared.sized.Passes.{Passes}
+use Rattle.column.specs.declared.sized.Under.{Under}
 
 -- `sized`, from the place where both rails end
 unfoldable pub sizedAt : P → List P → List Float → Bool
@@ -29,17 +30,25 @@ sizedAt ends sync ss = every (λ s. leb (countOf ends sync s) mostPairs) ss
 abbrev pub placesIf : Bool → P → List P → Pass → ℕ
 placesIf sewn ends sync w = cond sewn (length (walkPlaces ends sync w)) 0
 
--- the three passes and their places
-unfoldable pub passesOf : P → List P → Satin → Passes
-passesOf ends sync g =
+-- the underlay's passes and their places
+unfoldable pub underOf : P → List P → Satin → Under
+underOf ends sync g =
     let run = passOf ends sync (g .«run_len») in
     let zigzag = passOf ends sync zigzagUnderlaySpacing in
-    let top = passOf ends sync (spacingOf g) in
-    record { run = run; n = placesIf (runs g) ends sync run; zigzag = zigzag; m = placesIf (bit g 4) ends sync zigzag; top = top; t = length (walkPlaces ends sync top) }
+    record { run = run; n = placesIf (runs g) ends sync run; zigzag = zigzag; m = placesIf (bit g 4) ends sync zigzag }
 
--- N
+-- those of the whole column
+unfoldable pub passesOf : P → List P → Satin → Passes
+passesOf ends sync g =
+    let top = passOf ends sync (spacingOf g) in
+    record { under = underOf ends sync g; top = top; t = length (walkPlaces ends sync top) }
+
+-- N of the underlay, and of the whole column
+abbrev pub mostUnder : Under → ℕ
+mostUnder u = most (u .n) (u .m)
+
 abbrev pub mostIn : Passes → ℕ
-mostIn p = most (most (p .n) (p .m)) (p .t)
+mostIn p = most (mostUnder (p .under)) (p .t)
 
 -- the top's pairs stand at the front of the working slice
 abbrev pub topLaid : List Float → List Float → List Float → P → Passes → List Float → Type 0

@@ -2,7 +2,7 @@
 use Prim.Native.Nat.{ℕ, _+_, _-_, _%_, _≤_}
 use native.Mathlib.Omega.{arith}
 use mathlib.Core.Path.{_≡_, refl, sym, ap, _∙_}
-use mathlib.Core.Bool.{true, false}
+use mathlib.Core.Bool.{Bool, true, false}
 use mathlib.Core.List.{List, _++_, reverse, append-assoc}
 use lib.ListN.{length, take, drop, length-reverse}
 use lib.Seq.{length-take-le, take-at, drop-at, drop-drop}
@@ -16,25 +16,25 @@ use Rattle.geom.specs.Sewing.{flat}
 use Rattle.geom.specs.SewingLaws.{flat-length, points-flat}
 use Rattle.satinrules.specs.declared.Satin.{Satin}
 use Rattle.satinrules.specs.Pairs.{Rails, pairs}
-use Rattle.satinrules.specs.Column.{afterZigzag, spacingOf, stitches, styled, top}
+use Rattle.satinrules.specs.Column.{spacingOf, stitches, styled, top}
 use Rattle.pairing.specs.StoreLaws.{put-back}
 use Rattle.column.specs.Topping.{topOf}
 use Rattle.passes.specs.ThreadsLaws.{turned-length}
 
-pub top-is : (r : Rails) (g : Satin) → top r g ≡ topOf g (stitches g (pairs r (spacingOf g)))
+pub top-is : (far : Bool) (r : Rails) (g : Satin) → top far r g ≡ topOf far g (stitches g (pairs r (spacingOf g)))
 unfolding top topOf
-top-is r g = refl
+top-is far r g = refl
 
-module _ (g : Satin) (ps : List P) where
-  pub top-length : length (topOf g ps) ≡ length (styled (g .split) (g .style) ps)
+module _ (far : Bool) (g : Satin) (ps : List P) where
+  pub top-length : length (topOf far g ps) ≡ length (styled (g .split) (g .style) ps)
   unfolding topOf
-  top-length = turned-length (styled (g .split) (g .style) ps) (afterZigzag g)
+  top-length = turned-length (styled (g .split) (g .style) ps) far
 
-  pub top-on : afterZigzag g ≡ true → topOf g ps ≡ reverse (styled (g .split) (g .style) ps)
+  pub top-on : far ≡ true → topOf far g ps ≡ reverse (styled (g .split) (g .style) ps)
   unfolding topOf
   top-on e = rw e
 
-  pub top-off : afterZigzag g ≡ false → topOf g ps ≡ styled (g .split) (g .style) ps
+  pub top-off : far ≡ false → topOf far g ps ≡ styled (g .split) (g .style) ps
   unfolding topOf
   top-off e = rw e
 

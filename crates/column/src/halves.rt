@@ -16,6 +16,7 @@ use crate::sized::Passes;
 use crate::sized::column_most;
 use crate::sized::column_sized;
 use crate::sized::passes_of;
+use crate::topping::after_zigzag;
 use crate::topping::count_top;
 use crate::topping::put_top;
 use geom::P;
@@ -52,7 +53,8 @@ pub fn count_halves(
     put_stitches(work, p.t, g);
     let from = 4 * p.t;
     let points = count_top(&work[from..from + 4 * p.t], g, room);
-    add_within(points, count_underlay(p.n, p.m, g) as u64, room)
+    let u = p.under;
+    add_within(points, count_underlay(u.n, u.m, g) as u64, room)
 }
 
 // Both halves to the front of out. The top goes first, behind where the underlay comes to stand: its stitches stand in the working slice.
@@ -70,12 +72,14 @@ pub fn put_halves(
     requires { ⌜ Laid (now a) (now b) (now rails) × Ready (now a) (now b) (now sync) g ends p (length (now work)) × (pathIn p (now work) ≡ topPath (now a) (now b) (now sync) g) × (2 * length (column (railsOf (now a) (now b) (now sync)) g) ≤ length (now out)) ⌝ }
     ensures { λ _. ⌜ (now (out .exit) ≡ put (now (out .entry)) 0 (flat (column (railsOf (now (a .entry)) (now (b .entry)) (now (sync .entry))) g))) × (length (now (work .exit)) ≡ length (now (work .entry))) ⌝ }
 {
-    let run = p.run;
-    let zigzag = p.zigzag;
+    let u = p.under;
+    let run = u.run;
+    let zigzag = u.zigzag;
     let from = 4 * p.t;
-    let under = count_underlay(p.n, p.m, g);
-    put_top(out, 2 * under, &work[from..from + 4 * p.t], g);
-    put_underlay(work, out, rails, a, b, sync, ends, run, p.n, zigzag, p.m, g);
+    let under = count_underlay(u.n, u.m, g);
+    let far = after_zigzag(g);
+    put_top(out, 2 * under, &work[from..from + 4 * p.t], g, far);
+    put_underlay(work, out, rails, a, b, sync, ends, run, u.n, zigzag, u.m, g);
 }
 
 // The column to the front of out, or ROOM and nothing.

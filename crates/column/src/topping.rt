@@ -5,15 +5,15 @@ ghost use lib.ListN.{length};
 ghost use Rattle.seqs.specs.Slices.{put, capped};
 ghost use Rattle.geom.specs.Outline.{points};
 ghost use Rattle.geom.specs.Sewing.{flat};
-ghost use Rattle.satinrules.specs.Column.{afterZigzag};
+ghost use Rattle.satinrules.specs.Column.{afterZigzag, styled};
 ghost use Rattle.column.specs.Topping.{topOf};
 use crate::turning::turn_round;
 use passes::top::count_styled;
 use passes::top::put_styled;
 use satinrules::Satin;
 
-// Whether the needle is at the column's end once the underlay is sewn.
-fn after_zigzag(g: Satin) -> bool
+// Whether the thread is at the far end once the underlay is sewn.
+pub fn after_zigzag(g: Satin) -> bool
     ensures { λ r. ⌜ r ≡ afterZigzag g ⌝ }
 {
     let end = g.underlay % 2 == 1;
@@ -26,22 +26,22 @@ fn after_zigzag(g: Satin) -> bool
 // How many points the top over this path has, or room + 1 where they pass the room.
 pub fn count_top(path: &[f64], g: Satin, room: u64) -> u64
     requires { ⌜ room < 2 ^ 63 ⌝ }
-    ensures { λ r. ⌜ r ≡ capped room (length (topOf g (points (now (path .entry))))) ⌝ }
+    ensures { λ r. ⌜ r ≡ capped room (length (styled (g .split) (g .style) (points (now (path .entry))))) ⌝ }
 {
     let split = g.split;
     let style = g.style;
     count_styled(path, split, style, room)
 }
 
-// The top over this path, from k on; answers the place after it.
-pub fn put_top(out: &mut [f64], k: usize, path: &[f64], g: Satin) -> usize
-    requires { ⌜ k + 2 * length (topOf g (points (now path))) ≤ length (now out) ⌝ }
-    ensures { λ r. ⌜ (now (out .exit) ≡ put (now (out .entry)) k (flat (topOf g (points (now (path .entry)))))) × (r ≡ k + 2 * length (topOf g (points (now (path .entry))))) ⌝ }
+// The top over this path, from k on, turned round where the thread is at the far end; answers the place after it.
+pub fn put_top(out: &mut [f64], k: usize, path: &[f64], g: Satin, far: bool) -> usize
+    requires { ⌜ k + 2 * length (topOf far g (points (now path))) ≤ length (now out) ⌝ }
+    ensures { λ r. ⌜ (now (out .exit) ≡ put (now (out .entry)) k (flat (topOf far g (points (now (path .entry)))))) × (r ≡ k + 2 * length (topOf far g (points (now (path .entry))))) ⌝ }
 {
     let split = g.split;
     let style = g.style;
     let to = put_styled(out, k, path, split, style);
-    if after_zigzag(g) {
+    if far {
         turn_round(&mut out[k..to]);
         return to;
     }

@@ -4,6 +4,7 @@ ghost use mathlib.Core.Path.{_≡_};
 ghost use lib.ListN.{length};
 ghost use Rattle.satinrules.specs.Calls.{splitSewn, splitOutput, sStitchSewn, sStitchOutput, pairsSewn, pairsOutput, pairsWork, columnSewn, columnOutput, columnWork};
 ghost use Rattle.satinroom.specs.Room.{pairsRoomOf, columnRoomOf};
+ghost use Rattle.halves.specs.Answers.{underlaySaid, underlayOutput, underlayWork, topSewn, topOutput, topWork};
 ghost use Rattle.exports.specs.Borders.{styleOf, satinOf};
 use satinroom::column_room;
 use satinroom::pairs_room;
@@ -130,6 +131,75 @@ pub extern "C" fn beahcerot_column(
         style,
     );
     let r = column::column(a, b, sync, g, work, out);
+    *count = r.points;
+    r.answer
+}
+
+// The underlay alone. `far` says whether the thread ends at the far end, not so after a refusal; `beahcerot_top` is told it.
+#[no_mangle]
+pub extern "C" fn beahcerot_underlay(
+    a: &[f64],
+    b: &[f64],
+    sync: &[f64],
+    spacing: f64,
+    pull: f64,
+    underlay: u64,
+    run_len: f64,
+    short_stitches: bool,
+    split: f64,
+    style: u64,
+    work: &mut [f64],
+    out: &mut [f64],
+    count: &mut u64,
+    far: &mut bool,
+) -> u64
+    ensures { λ r. ⌜ (r ≡ underlaySaid (now (a .entry)) (now (b .entry)) (now (sync .entry)) (satinOf spacing pull underlay «run_len» «short_stitches» split style) (length (now (work .entry))) (length (now (out .entry))) .answer) × (now (count .exit) ≡ underlaySaid (now (a .entry)) (now (b .entry)) (now (sync .entry)) (satinOf spacing pull underlay «run_len» «short_stitches» split style) (length (now (work .entry))) (length (now (out .entry))) .points) × (now (far .exit) ≡ underlaySaid (now (a .entry)) (now (b .entry)) (now (sync .entry)) (satinOf spacing pull underlay «run_len» «short_stitches» split style) (length (now (work .entry))) (length (now (out .entry))) .far) × (now (out .exit) ≡ underlayOutput (now (a .entry)) (now (b .entry)) (now (sync .entry)) (satinOf spacing pull underlay «run_len» «short_stitches» split style) (length (now (work .entry))) (now (out .entry))) × (now (work .exit) ≡ underlayWork (now (a .entry)) (now (b .entry)) (now (sync .entry)) (satinOf spacing pull underlay «run_len» «short_stitches» split style) (now (work .entry)) (length (now (out .entry)))) ⌝ }
+{
+    let g = satin_of(
+        spacing,
+        pull,
+        underlay,
+        run_len,
+        short_stitches,
+        split,
+        style,
+    );
+    let r = halves::underlay(a, b, sync, g, work, out);
+    *count = r.points;
+    *far = r.far;
+    r.answer
+}
+
+// The top alone, turned round where the thread is at the far end. The room for a column is enough for either half.
+#[no_mangle]
+pub extern "C" fn beahcerot_top(
+    a: &[f64],
+    b: &[f64],
+    sync: &[f64],
+    spacing: f64,
+    pull: f64,
+    underlay: u64,
+    run_len: f64,
+    short_stitches: bool,
+    split: f64,
+    style: u64,
+    far: bool,
+    work: &mut [f64],
+    out: &mut [f64],
+    count: &mut u64,
+) -> u64
+    ensures { λ r. ⌜ (r ≡ topSewn (now (a .entry)) (now (b .entry)) (now (sync .entry)) (satinOf spacing pull underlay «run_len» «short_stitches» split style) far (length (now (work .entry))) (length (now (out .entry))) .answer) × (now (count .exit) ≡ topSewn (now (a .entry)) (now (b .entry)) (now (sync .entry)) (satinOf spacing pull underlay «run_len» «short_stitches» split style) far (length (now (work .entry))) (length (now (out .entry))) .points) × (now (out .exit) ≡ topOutput (now (a .entry)) (now (b .entry)) (now (sync .entry)) (satinOf spacing pull underlay «run_len» «short_stitches» split style) far (length (now (work .entry))) (now (out .entry))) × (now (work .exit) ≡ topWork (now (a .entry)) (now (b .entry)) (now (sync .entry)) (satinOf spacing pull underlay «run_len» «short_stitches» split style) far (now (work .entry)) (length (now (out .entry)))) ⌝ }
+{
+    let g = satin_of(
+        spacing,
+        pull,
+        underlay,
+        run_len,
+        short_stitches,
+        split,
+        style,
+    );
+    let r = halves::top(a, b, sync, g, far, work, out);
     *count = r.points;
     r.answer
 }

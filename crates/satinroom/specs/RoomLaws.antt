@@ -1,34 +1,34 @@
 -- What the tests on the way make of the room. Assumes nothing.
 use Prim.Native.Nat.{ℕ}
-use mathlib.Core.Path.{_≡_, refl, _∙_}
-use mathlib.Core.Bool.{Bool, true, false}
+use mathlib.Core.Path.{_≡_, ap, _∙_}
+use mathlib.Core.Bool.{true, false}
 use mathlib.Core.List.{List, [], _∷_, _++_}
 use lib.Ieee.{Float}
 use borrow.Author.Tests.{ne-eqb}
 use Rattle.refusal.specs.Refusal.{DONE}
+use Rattle.seqs.specs.Each.{fold-append}
 use Rattle.geom.specs.declared.point.P.{P}
 use Rattle.geom.specs.Outline.{points}
 use Rattle.satinrules.specs.declared.Satin.{Satin}
 use Rattle.satinrules.specs.Settings.{zigzagUnderlaySpacing}
-use Rattle.satinrules.specs.Pairs.{endsOf, few}
+use Rattle.satinrules.specs.Pairs.{endsOf, few, countOf}
 use Rattle.satinrules.specs.Column.{onlyIf, bit, spacingOf}
-use Rattle.satinrules.specs.Calls.{railsOf, passSteps}
+use Rattle.satinrules.specs.Calls.{railsOf, underlaySteps, topSteps, passSteps, most}
 use Rattle.satin.specs.Underlay.{runs}
 use Rattle.satinroom.specs.declared.Room.{Room}
 use Rattle.satinroom.specs.Room.{room, largestFrom, roomFor, roomAfter}
 
 module _ (ends : P) (sync : List P) where
   -- one pass after the other
-  largest-then : (sewn : Bool) (m : ℕ) (s : Float) (ss : List Float) → largestFrom ends sync m (onlyIf sewn (s ∷ []) ++ ss) ≡ largestFrom ends sync (largestFrom ends sync m (onlyIf sewn (s ∷ []))) ss
+  largest-then : (m : ℕ) (ss ts : List Float) → largestFrom ends sync m (ss ++ ts) ≡ largestFrom ends sync (largestFrom ends sync m ss) ts
   unfolding largestFrom
-  largest-then true m s ss = refl
-  largest-then false m s ss = refl
+  largest-then m ss ts = fold-append (λ s n. most n (countOf ends sync s)) m ss ts
 
   pub largest-three : (g : Satin) → largestFrom ends sync 0 (passSteps g) ≡ largestFrom ends sync (largestFrom ends sync (largestFrom ends sync 0 (onlyIf (runs g) (g .«run_len» ∷ []))) (onlyIf (bit g 4) (zigzagUnderlaySpacing ∷ []))) (onlyIf true (spacingOf g ∷ []))
-  unfolding passSteps
+  unfolding passSteps underlaySteps topSteps
   largest-three g =
-      largest-then (runs g) 0 (g .«run_len») (onlyIf (bit g 4) (zigzagUnderlaySpacing ∷ []) ++ (spacingOf g ∷ []))
-      ∙ largest-then (bit g 4) (largestFrom ends sync 0 (onlyIf (runs g) (g .«run_len» ∷ []))) zigzagUnderlaySpacing (spacingOf g ∷ [])
+      largest-then 0 (underlaySteps g) (topSteps g)
+      ∙ ap (λ (m : ℕ). largestFrom ends sync m (topSteps g)) (largest-then 0 (onlyIf (runs g) (g .«run_len» ∷ [])) (onlyIf (bit g 4) (zigzagUnderlaySpacing ∷ [])))
 
 module _ (a b sync ss : List Float) where
   -- the checks in front refuse

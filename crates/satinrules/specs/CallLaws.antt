@@ -20,7 +20,7 @@ use Rattle.satinrules.specs.declared.Style.{Style}
 use Rattle.satinrules.specs.declared.Style.the-variants.{Plain, SStitch, Zigzag}
 use Rattle.satinrules.specs.Settings.{zigzagUnderlaySpacing}
 use Rattle.satinrules.specs.Pairs.{Rails, few, pairs}
-use Rattle.satinrules.specs.Column.{turnedIf, onlyIf, bit, middle, inset, alternate, afterCentre, afterZigzag, centrePass, contourPass, zigzagPass, underlay, spacingOf, stitches, sides, splitLong, sStitch, splitBy, styled, top, column}
+use Rattle.satinrules.specs.Column.{turnedIf, onlyIf, bit, middle, inset, alternate, afterCentre, afterZigzag, centrePass, contourPass, zigzagPass, underlay, farEnd, spacingOf, stitches, sides, splitLong, sStitch, splitBy, styled, top, column}
 use Rattle.satinrules.specs.Calls.{sized, most, mostOf, need, passed}
 
 -- ---- the most of two
@@ -52,6 +52,17 @@ module _ (r : Rails) (ss : List Float) (ps : List P) (work room : ℕ) (some : f
       pub answer-fitted : passed r ss ps work room ≡ fitted ps room
       unfolding passed
       answer-fitted = rw (some, ok, le-leb (need r (mostOf r ss)) work works)
+
+-- ---- where the thread ends
+
+module _ (r : Rails) (g : Satin) where
+  pub far-is : few r ≡ false → farEnd r g ≡ afterZigzag g
+  unfolding farEnd
+  far-is e = rw e
+
+  pub far-none : few r ≡ true → farEnd r g ≡ false
+  unfolding farEnd
+  far-none e = rw e
 
 -- ---- rails of too few corners give nothing
 
@@ -91,12 +102,16 @@ module _ (r : Rails) (g : Satin) (e : few r ≡ true) where
   unfolding zigzagPass alternate
   no-zigzag end = ap (λ (l : List Pair). turnedIf end (alternate false (map inset l))) (no-pairs zigzagUnderlaySpacing) ∙ turned-none end
 
-  no-top : top r g ≡ []
+  pub no-underlay : underlay r g ≡ []
+  unfolding underlay
+  no-underlay = rw (no-centre false, no-contour (afterCentre g), no-zigzag (afterCentre g), only-none (bit g 1), only-none (bit g 2), only-none (bit g 4))
+
+  pub no-top : (far : Bool) → top far r g ≡ []
   unfolding top stitches
-  no-top =
-      ap (λ (l : List Pair). turnedIf (afterZigzag g) (styled (g .split) (g .style) (stitches g l))) (no-pairs (spacingOf g))
-      ∙ ap (turnedIf (afterZigzag g)) (styled-none (g .split) (g .style)) ∙ turned-none (afterZigzag g)
+  no-top far =
+      ap (λ (l : List Pair). turnedIf far (styled (g .split) (g .style) (stitches g l))) (no-pairs (spacingOf g))
+      ∙ ap (turnedIf far) (styled-none (g .split) (g .style)) ∙ turned-none far
 
   pub no-column : column r g ≡ []
-  unfolding column underlay
-  no-column = rw (no-centre false, no-contour (afterCentre g), no-zigzag (afterCentre g), no-top, only-none (bit g 1), only-none (bit g 2), only-none (bit g 4))
+  unfolding column
+  no-column = rw (no-underlay, no-top (farEnd r g))

@@ -56,9 +56,15 @@ goodRails a b sync =
     unless LAYOUT (goodLine a) then unless LAYOUT (goodLine b) then unless LAYOUT (goodSync sync)
     then unless NUMBER (goodNumbers a) then unless NUMBER (goodNumbers b) then unless NUMBER (goodNumbers sync)
 
--- the passes that are sewn, by their steps
+-- the passes that are sewn, by their steps: the underlay's, and the top's
+unfoldable pub underlaySteps : Satin → List Float
+underlaySteps g = onlyIf (bit g 1 || bit g 2) (g .«run_len» ∷ []) ++ onlyIf (bit g 4) (zigzagUnderlaySpacing ∷ [])
+
+unfoldable pub topSteps : Satin → List Float
+topSteps g = spacingOf g ∷ []
+
 unfoldable pub passSteps : Satin → List Float
-passSteps g = onlyIf (bit g 1 || bit g 2) (g .«run_len» ∷ []) ++ (onlyIf (bit g 4) (zigzagUnderlaySpacing ∷ []) ++ (spacingOf g ∷ []))
+passSteps g = underlaySteps g ++ topSteps g
 
 -- at most 65,536 in any pass
 unfoldable pub sized : Rails → List Float → Bool

@@ -17,7 +17,7 @@ use Rattle.satinrules.specs.declared.Split.the-variants.{Absent, Length}
 use Rattle.satinrules.specs.declared.Style.{Style}
 use Rattle.satinrules.specs.declared.Style.the-variants.{Plain, SStitch, Zigzag}
 use Rattle.satinrules.specs.Settings.{shortDist, shortInset, underlayInset, zigzagUnderlaySpacing}
-use Rattle.satinrules.specs.Pairs.{Rails, pairs}
+use Rattle.satinrules.specs.Pairs.{Rails, few, pairs}
 
 abbrev pub turnedIf : {A : Type 0} → Bool → List A → List A
 turnedIf true l = reverse l
@@ -68,6 +68,10 @@ afterZigzag g = cond (bit g 4) (not (afterCentre g)) (afterCentre g)
 
 unfoldable pub underlay : Rails → Satin → List P
 underlay r g = onlyIf (bit g 1) (centrePass r g false) ++ (onlyIf (bit g 2) (contourPass r g (afterCentre g)) ++ onlyIf (bit g 4) (zigzagPass r (afterCentre g)))
+
+-- whether the thread ends at the far end once the underlay is sewn; where a rail has under 2 corners there is no thread
+unfoldable pub farEnd : Rails → Satin → Bool
+farEnd r g = not (few r) && afterZigzag g
 
 -- ---- the top's stitches
 
@@ -169,10 +173,11 @@ styled s Plain ps = splitBy s ps
 styled s SStitch ps = sStitch ps
 styled s Zigzag ps = ps
 
-unfoldable pub top : Rails → Satin → List P
-top r g = turnedIf (afterZigzag g) (styled (g .split) (g .style) (stitches g (pairs r (spacingOf g))))
+-- turned round where the thread is at the far end
+unfoldable pub top : Bool → Rails → Satin → List P
+top far r g = turnedIf far (styled (g .split) (g .style) (stitches g (pairs r (spacingOf g))))
 
--- ---- the column
+-- ---- the column: the top goes on from where the underlay ends
 
 unfoldable pub column : Rails → Satin → List P
-column r g = underlay r g ++ top r g
+column r g = underlay r g ++ top (farEnd r g) r g

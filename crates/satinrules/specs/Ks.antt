@@ -2,7 +2,7 @@
 use Prim.Native.Nat.{ℕ}
 use mathlib.Core.Path.{_≡_, refl}
 use mathlib.Core.Bool.{true, false}
-use mathlib.Core.List.{[], _∷_}
+use mathlib.Core.List.{[], _∷_, map}
 use lib.ListN.{length}
 use lib.Ieee.{Float, add, sub, mul, div, neg, lt, le, eq, ofInt, round, toUnsigned, isNan}
 use Rattle.numbers.specs.Num.{literal}
@@ -19,7 +19,7 @@ use Rattle.satinrules.specs.declared.Style.the-variants.{Plain}
 use Rattle.satinrules.specs.Settings.{shortDist, shortInset, underlayInset, zigzagUnderlaySpacing}
 use Rattle.satinrules.specs.Arc.{lengthsFrom, lengths, clamp, partitionPoint, sideEnd, fraction, onSide, at, railAt}
 use Rattle.satinrules.specs.Pairs.{Rails, endsOf, grows, kept, centre, centresFrom, totalOf, countOf, placeAt, inWindow, windows, places, few, pairAt, pairs}
-use Rattle.satinrules.specs.Column.{inset, middle, alternate, centrePass, contourPass, zigzagPass, afterCentre, afterZigzag, underlay, widened, crowded, pulled, stitch, stitchesFrom, stitches, sidesFrom, sides, stagger, partsOf, partEnd, partsFrom, splitSide, bend, bends, sSide, splitLong, sStitch, spaced, splitBy, styled, top, column}
+use Rattle.satinrules.specs.Column.{inset, middle, alternate, centrePass, contourPass, zigzagPass, afterCentre, afterZigzag, underlay, farEnd, widened, crowded, pulled, stitch, stitchesFrom, stitches, sidesFrom, sides, stagger, partsOf, partEnd, partsFrom, splitSide, bend, bends, sSide, splitLong, sStitch, spaced, splitBy, styled, top, column}
 
 abbrev n : ℕ → Float
 n a = unfold literal in literal a 1
@@ -45,8 +45,13 @@ k11 = refl
 
 -- all three underlays, then a top split at 2: 3 + 6 + 2 + 18 points
 pub all-passes : length (column rails (record { spacing = n 5; pull = n 1; underlay = 7; «run_len» = n 5; «short_stitches» = true; split = Length (n 2); style = Plain })) ≡ 29
-unfolding add sub mul div neg lt le eq ofInt round toUnsigned isNan literal negative before smaller larger wholeOf ceil isqrt nearRoot rootUnits root len dist norm lerp tiny steps lengthFrom polylineLength shortest lengthsFrom lengths clamp partitionPoint sideEnd fraction onSide at railAt endsOf grows kept centre centresFrom totalOf countOf placeAt inWindow windows places few pairAt pairs shortDist shortInset underlayInset zigzagUnderlaySpacing inset middle alternate centrePass contourPass zigzagPass afterCentre afterZigzag underlay widened crowded pulled stitch stitchesFrom stitches sidesFrom sides stagger partsOf partEnd partsFrom splitSide bend bends sSide splitLong spaced splitBy styled top column
+unfolding add sub mul div neg lt le eq ofInt round toUnsigned isNan literal negative before smaller larger wholeOf ceil isqrt nearRoot rootUnits root len dist norm lerp tiny steps lengthFrom polylineLength shortest lengthsFrom lengths clamp partitionPoint sideEnd fraction onSide at railAt endsOf grows kept centre centresFrom totalOf countOf placeAt inWindow windows places few pairAt pairs shortDist shortInset underlayInset zigzagUnderlaySpacing inset middle alternate centrePass contourPass zigzagPass afterCentre afterZigzag underlay farEnd widened crowded pulled stitch stitchesFrom stitches sidesFrom sides stagger partsOf partEnd partsFrom splitSide bend bends sSide splitLong spaced splitBy styled top column
 all-passes = refl
+
+-- where the thread ends after each underlay from 0 to 7: centre and zigzag turn the travelling end, contour doesn't
+pub far-ends : map (λ u. farEnd rails (record { spacing = n 5; pull = n 1; underlay = u; «run_len» = n 5; «short_stitches» = true; split = Absent; style = Plain })) (0 ∷ 1 ∷ 2 ∷ 3 ∷ 4 ∷ 5 ∷ 6 ∷ 7 ∷ []) ≡ false ∷ true ∷ false ∷ true ∷ true ∷ false ∷ true ∷ false ∷ []
+unfolding few afterCentre afterZigzag farEnd
+far-ends = refl
 
 -- ---- the constants
 

@@ -1,4 +1,4 @@
-//! Satin columns: `split_long`, `s_stitch`, `pairs`, `column`, and the room for the last two.
+//! Satin columns: `split_long`, `s_stitch`, `pairs`, `column` and the room for the last two; the two halves of a column, and both joined.
 
 use super::{Function, Operands, Outcome, hex, list, no_tie, simplicity};
 use crate::expect::DONE;
@@ -6,7 +6,7 @@ use crate::inputs::borders;
 use crate::inputs::column_boundaries as boundaries;
 use crate::inputs::fills::{lend, ways};
 use crate::inputs::outlines::points;
-use crate::inputs::rails::{self, Column, Matched, Path, Rails};
+use crate::inputs::rails::{self, Column, Matched, Path, Rails, Top};
 use crate::ours::satin as ours;
 use crate::owed::satin::{self as owed, Enough};
 use crate::owed::{Left, MARGIN, MARK, fresh};
@@ -20,6 +20,9 @@ pub fn functions() -> Vec<Function> {
         s_stitch(),
         matched(),
         column(),
+        underlay(),
+        top(),
+        joined(),
         room(
             "pairs_room",
             pairs_calls(),
@@ -44,7 +47,8 @@ fn split_long() -> Function {
         need: owed::split_long_need,
         owed: owed::split_long,
         slices: 1,
-        ours: |p, lent, count| ours::split_long(p, lent[0], count),
+        counts: 1,
+        ours: |p, lent, counts| ours::split_long(p, lent[0], &mut counts[0]),
     };
     let path = borders::path();
     let pts = points(&path.line);
@@ -65,7 +69,8 @@ fn s_stitch() -> Function {
         need: owed::s_stitch_need,
         owed: owed::s_stitch,
         slices: 1,
-        ours: |p, lent, count| ours::s_stitch(&p.line, lent[0], count),
+        counts: 1,
+        ours: |p, lent, counts| ours::s_stitch(&p.line, lent[0], &mut counts[0]),
     };
     let path = borders::path();
     let pts = points(&path.line);
@@ -86,11 +91,12 @@ fn pairs_calls() -> Calls<Matched> {
         need: owed::pairs_need,
         owed: owed::pairs,
         slices: 2,
-        ours: |m, lent, count| {
+        counts: 1,
+        ours: |m, lent, counts| {
             let [work, out] = lent else {
                 unreachable!("two slices")
             };
-            ours::pairs(m, work, out, count)
+            ours::pairs(m, work, out, &mut counts[0])
         },
     }
 }
@@ -119,11 +125,12 @@ fn column_calls() -> Calls<Column> {
         need: owed::column_need,
         owed: owed::column,
         slices: 2,
-        ours: |c, lent, count| {
+        counts: 1,
+        ours: |c, lent, counts| {
             let [work, out] = lent else {
                 unreachable!("two slices")
             };
-            ours::column(c, work, out, count)
+            ours::column(c, work, out, &mut counts[0])
         },
     }
 }
@@ -145,7 +152,76 @@ fn column() -> Function {
     function
 }
 
-type Ours<I> = fn(&I, &mut [&mut [f64]], &mut u64) -> u64;
+/// The underlay of a column; its second count is 1 where the thread ends at the far end.
+fn underlay() -> Function {
+    function(&Calls {
+        name: "underlay",
+        small: boundaries::columns,
+        large: boundaries::large_columns,
+        any: rails::column,
+        need: owed::underlay_need,
+        owed: owed::underlay,
+        slices: 2,
+        counts: 2,
+        ours: |c, lent, counts| {
+            let ([work, out], [count, far]) = (lent, counts) else {
+                unreachable!("two slices and two counts")
+            };
+            ours::underlay(c, work, out, count, far)
+        },
+    })
+}
+
+fn top() -> Function {
+    function(&Calls {
+        name: "top",
+        small: boundaries::tops,
+        large: boundaries::large_tops,
+        any: rails::top,
+        need: owed::top_need,
+        owed: owed::top,
+        slices: 2,
+        counts: 1,
+        ours: |t: &Top, lent, counts| {
+            let [work, out] = lent else {
+                unreachable!("two slices")
+            };
+            ours::top(t, work, out, &mut counts[0])
+        },
+    })
+}
+
+/// Both halves, the second told what the first says, in place of `column`.
+fn joined() -> Function {
+    let calls = column_calls();
+    Function::new(
+        "joined",
+        maker(calls),
+        |c: &Call<Column>| owed::column(&c.given, &c.lent),
+        |c: &Call<Column>| both(&c.given, &c.lent),
+        no_tie,
+    )
+    .usually(20_000)
+}
+
+/// Each half is lent as much to work in as `column` is, and room for its own points.
+fn both(given: &Column, lent: &[usize]) -> Left {
+    let room = |need: Option<Vec<usize>>| vec![0.0; need.map_or(0, |n| n[1])];
+    let mut work = vec![0.0; lent[0]];
+    let (mut first, mut points, mut far) = (room(owed::underlay_need(given)), 0, 0);
+    let under = ours::underlay(given, &mut work, &mut first, &mut points, &mut far);
+    first.truncate(2 * points as usize);
+    let top = Top {
+        column: given.clone(),
+        far: far == 1,
+    };
+    let mut second = room(owed::top_need(&top));
+    let over = ours::top(&top, &mut work, &mut second, &mut points);
+    second.truncate(2 * points as usize);
+    owed::joined(lent, [under, over], [&first, &second])
+}
+
+type Ours<I> = fn(&I, &mut [&mut [f64]], &mut [u64]) -> u64;
 
 /// One of the calls: its inputs, what it needs and owes, and ours.
 struct Calls<I> {
@@ -159,6 +235,8 @@ struct Calls<I> {
     owed: fn(&I, &[usize]) -> Left,
     /// How many slices it is lent: a working slice if it has one, the output.
     slices: usize,
+    /// How many counts it stores.
+    counts: usize,
     ours: Ours<I>,
 }
 
@@ -215,6 +293,16 @@ impl Operands for Matched {
     }
 }
 
+impl Operands for Top {
+    fn size(&self) -> (usize, u64) {
+        let (corners, numbers) = self.column.size();
+        (corners, numbers + u64::from(self.far))
+    }
+    fn show(&self) -> String {
+        format!("{} far {}", self.column.show(), self.far)
+    }
+}
+
 impl Operands for Column {
     fn size(&self) -> (usize, u64) {
         let r = &self.rails;
@@ -235,10 +323,10 @@ impl Operands for Column {
     }
 }
 
-fn function<I: Operands + Clone + 'static>(calls: &Calls<I>) -> Function {
-    let calls = *calls;
+/// A call's operands, by its number.
+fn maker<I: Operands + Clone + 'static>(calls: Calls<I>) -> impl Fn(&mut Rng, u64) -> Call<I> {
     let (small, large) = ((calls.small)(), (calls.large)());
-    let make = move |rng: &mut Rng, call: u64| {
+    move |rng: &mut Rng, call: u64| {
         let slices = calls.slices;
         let (given, way) = choose(rng, call as usize, &small, &large, slices, calls.any);
         // A call that is refused anyway is lent some words to leave alone.
@@ -248,12 +336,16 @@ fn function<I: Operands + Clone + 'static>(calls: &Calls<I>) -> Function {
             lent.iter_mut().for_each(|n| *n += rng.index(40));
         }
         Call { given, lent }
-    };
+    }
+}
+
+fn function<I: Operands + Clone + 'static>(calls: &Calls<I>) -> Function {
+    let calls = *calls;
     Function::new(
         calls.name,
-        make,
+        maker(calls),
         move |c: &Call<I>| (calls.owed)(&c.given, &c.lent),
-        move |c: &Call<I>| left(&c.given, &c.lent, calls.ours),
+        move |c: &Call<I>| left(&c.given, &c.lent, calls),
         no_tie,
     )
     .usually(20_000)
@@ -295,7 +387,7 @@ fn room<I: Operands + Clone + 'static>(
         let mut floats = MARK;
         let answer = ours(given, &mut floats);
         let mut work = vec![0.0; floats.min(PLENTY) as usize];
-        let call = (calls.ours)(given, &mut [&mut work[..], &mut []], &mut 0);
+        let call = (calls.ours)(given, &mut [&mut work[..], &mut []], &mut [0]);
         Enough {
             answer,
             floats,
@@ -329,7 +421,7 @@ fn choose<I: Clone>(
 }
 
 /// What a call of ours leaves in slices of so many words.
-fn left<I>(given: &I, words: &[usize], ours: Ours<I>) -> Left {
+fn left<I>(given: &I, words: &[usize], calls: Calls<I>) -> Left {
     let floats = |&n: &usize| fresh(n).into_iter().map(f64::from_bits).collect();
     let mut slices: Vec<Vec<f64>> = words.iter().map(floats).collect();
     let mut lent: Vec<&mut [f64]> = slices
@@ -337,12 +429,12 @@ fn left<I>(given: &I, words: &[usize], ours: Ours<I>) -> Left {
         .zip(words)
         .map(|(slice, &n)| &mut slice[MARGIN..MARGIN + n])
         .collect();
-    let mut count = MARK;
-    let answer = ours(given, &mut lent, &mut count);
+    let mut counts = vec![MARK; calls.counts];
+    let answer = (calls.ours)(given, &mut lent, &mut counts);
     let bits = |slice: Vec<f64>| slice.into_iter().map(f64::to_bits).collect();
     Left {
         answer,
-        counts: vec![count],
+        counts,
         slices: slices.into_iter().map(bits).collect(),
     }
 }
@@ -370,8 +462,8 @@ impl<I: Clone, R> Timed<I, R> {
     fn ours(&self) -> u64 {
         let mut slices = self.slices.borrow_mut();
         let mut lent: Vec<&mut [f64]> = slices.iter_mut().map(|s| &mut s[..]).collect();
-        let mut count = 0;
+        let mut count = [0];
         assert_eq!((self.call)(&self.given, &mut lent, &mut count), DONE);
-        count
+        count[0]
     }
 }

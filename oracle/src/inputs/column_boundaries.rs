@@ -2,7 +2,7 @@
 //! easily got wrong. The large ones take long and stand in lists of their own.
 
 use super::numbers::beside;
-use super::rails::{Column, Matched, Path, Rails, flat};
+use super::rails::{Column, Matched, Path, Rails, Top, flat};
 use crate::expect::{CORNERS, LEN, PAIRS, SHRINK, SIZE_LIMIT, SPACING, SPLIT, STEP, SYNCS};
 use std::f64::consts::TAU;
 use std::ops::RangeInclusive;
@@ -356,6 +356,25 @@ pub fn columns() -> Vec<Column> {
         }
     }
     list
+}
+
+/// Each column's top, from either end.
+fn tops_of(columns: Vec<Column>) -> Vec<Top> {
+    let both = |column: Column| {
+        [false, true].map(|far| Top {
+            column: column.clone(),
+            far,
+        })
+    };
+    columns.into_iter().flat_map(both).collect()
+}
+
+pub fn tops() -> Vec<Top> {
+    tops_of(columns())
+}
+
+pub fn large_tops() -> Vec<Top> {
+    tops_of(large_columns())
 }
 
 /// n at its limit and one past it, in each pass; and a pass past it that isn't sewn.

@@ -96,6 +96,13 @@ pub struct Column {
     pub style: u64,
 }
 
+/// A call of `top`: the column, and whether the thread is at the far end.
+#[derive(Clone)]
+pub struct Top {
+    pub column: Column,
+    pub far: bool,
+}
+
 impl Column {
     /// Rails with ordinary settings.
     pub fn new(rails: Rails) -> Column {
@@ -471,6 +478,13 @@ pub fn path(rng: &mut Rng) -> Path {
         }
     };
     Path { line, max }
+}
+
+/// The top of any column, from either end.
+pub fn top(rng: &mut Rng) -> Top {
+    let column = column(rng);
+    let far = rng.one_in(2);
+    Top { column, far }
 }
 
 /// A column of any kind, one in four of them refused whatever it is lent.

@@ -7,7 +7,7 @@ use crate::expect::{
     UNDERLAY, WORK,
 };
 use crate::inputs::outlines::points;
-use crate::inputs::rails::{Column, Matched, Path, Rails};
+use crate::inputs::rails::{Column, Matched, Path, Rails, Top};
 use zigzag::geom::P;
 use zigzag::satin::{self, SatinParams, SatinStyle};
 
@@ -224,9 +224,9 @@ fn column_gate(c: &Column) -> u64 {
     expect::first(&[layout, number, (SETTING, settings)])
 }
 
-/// The steps of the passes that are sewn: centre and contour by `run_len`,
-/// zigzag by 30.0, the top by its spacing, which the zigzag style triples.
-fn pass_steps(c: &Column) -> Vec<f64> {
+/// The steps of the underlay's passes that are sewn: centre and contour by
+/// `run_len`, zigzag by 30.0.
+fn underlay_steps(c: &Column) -> Vec<f64> {
     let mut steps = Vec::new();
     if c.underlay & 3 != 0 {
         steps.push(c.run_len);
@@ -234,11 +234,19 @@ fn pass_steps(c: &Column) -> Vec<f64> {
     if c.underlay & 4 != 0 {
         steps.push(30.0);
     }
-    steps.push(match c.style() {
+    steps
+}
+
+/// The top's spacing, which the zigzag style triples.
+fn top_steps(c: &Column) -> Vec<f64> {
+    vec![match c.style() {
         SatinStyle::Zigzag => c.spacing * 3.0,
         _ => c.spacing,
-    });
-    steps
+    }]
+}
+
+fn pass_steps(c: &Column) -> Vec<f64> {
+    [underlay_steps(c), top_steps(c)].concat()
 }
 
 /// How many points a column has, its long stitches not yet split when they are
@@ -283,4 +291,79 @@ pub fn column_need(c: &Column) -> Option<Vec<usize>> {
         return None;
     }
     need(&c.rails, &pass_steps(c), || column_points(c))
+}
+
+// ---- the two halves of a column (request [3])
+
+/// The second count says whether the thread ends at the far end: not after a
+/// refusal, and not where there is no thread because a rail is too short.
+pub fn underlay(c: &Column, lent: &[usize]) -> Left {
+    let first = column_gate(c);
+    if first != DONE {
+        return left(first, lent, WORKING, vec![0, 0], &[]);
+    }
+    let sewn = || satin::underlay(&c.rails.original(), &c.params());
+    let count = || sewn().0.len() as u64;
+    let mut left = passed(&c.rails, &underlay_steps(c), lent, count, || sewn().0);
+    let far = left.answer == DONE && !c.rails.few() && sewn().1;
+    left.counts.push(far.into());
+    left
+}
+
+pub fn underlay_need(c: &Column) -> Option<Vec<usize>> {
+    if column_gate(c) != DONE {
+        return None;
+    }
+    let count = || satin::underlay(&c.rails.original(), &c.params()).0.len() as u64;
+    need(&c.rails, &underlay_steps(c), count)
+}
+
+/// How many points the top has: a column with no underlay has no others.
+fn top_points(c: &Column) -> u64 {
+    column_points(&Column {
+        underlay: 0,
+        ..c.clone()
+    })
+}
+
+pub fn top(t: &Top, lent: &[usize]) -> Left {
+    let c = &t.column;
+    let first = column_gate(c);
+    if first != DONE {
+        return left(first, lent, WORKING, vec![0], &[]);
+    }
+    passed(
+        &c.rails,
+        &top_steps(c),
+        lent,
+        || top_points(c),
+        || satin::top(&c.rails.original(), &c.params(), t.far),
+    )
+}
+
+pub fn top_need(t: &Top) -> Option<Vec<usize>> {
+    let c = &t.column;
+    if column_gate(c) != DONE {
+        return None;
+    }
+    need(&c.rails, &top_steps(c), || top_points(c))
+}
+
+/// What a caller of both halves leaves in the slices of `column`, from the two
+/// answers and the two lists: document 01's order over both.
+pub fn joined(lent: &[usize], answers: [u64; 2], lists: [&[f64]; 2]) -> Left {
+    let refused = |no: u64| answers.contains(&no);
+    let bits = |list: &[f64]| list.iter().map(|x| x.to_bits()).collect::<Vec<u64>>();
+    let points = [bits(lists[0]), bits(lists[1])].concat();
+    let first = [LAYOUT, NUMBER, SETTING, SIZE, WORK, ROOM]
+        .into_iter()
+        .find(|&no| refused(no));
+    let room = points.len() <= lent[WORKING];
+    match first.or((!room).then_some(ROOM)) {
+        Some(no) => left(no, lent, WORKING, vec![0], &[]),
+        None => {
+            let count = points.len() as u64 / 2;
+            left(DONE, lent, WORKING, vec![count], &[points])
+        }
+    }
 }

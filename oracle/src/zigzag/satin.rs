@@ -148,7 +148,15 @@ pub fn pairs(r: &Rails, step: f64) -> Vec<(P, P)> {
 }
 
 /// Sew a column: underlay passes, then the top satin, as one continuous path.
+// added (document 02, request [3]): `column` is cut into `underlay` and `top` where the top stitching begins.
 pub fn column(r: &Rails, p: &SatinParams) -> Polyline {
+    let (mut out, at_end) = underlay(r, p);
+    out.extend(top(r, p, at_end));
+    out
+}
+
+// added: the underlay passes, and where the needle is after them.
+pub fn underlay(r: &Rails, p: &SatinParams) -> (Polyline, bool) {
     let mut out: Polyline = Vec::new();
     // Where the needle is: start (false) or end (true) of the column.
     let mut at_end = false;
@@ -200,7 +208,11 @@ pub fn column(r: &Rails, p: &SatinParams) -> Polyline {
         out.extend(pass);
         at_end = !at_end;
     }
+    (out, at_end)
+}
 
+// added: the top satin, from where the needle is.
+pub fn top(r: &Rails, p: &SatinParams, at_end: bool) -> Polyline {
     // Top stitching.
     let spacing = match p.style {
         SatinStyle::Zigzag => p.spacing * 3.0,
@@ -236,8 +248,7 @@ pub fn column(r: &Rails, p: &SatinParams) -> Polyline {
     if at_end {
         top.reverse();
     }
-    out.extend(top);
-    out
+    top
 }
 
 /// S-stitch: each stitch across the column becomes three, the middle

@@ -4,7 +4,7 @@ use Rattle.column.proofs.sized.column_most.Statement.{statement}
 use Rattle.column.proofs.sized.column_most.Tie as tie
 
 returns : tie.Need-returns
-returns c = c .larger2 .ensures ∙ rw (c .before .larger .ensures)
+returns c = c .larger .ensures ∙ rw (c .before .underlay-most .ensures)
 
 pub column-most-spec : {M : Type 1} → statement M
 column-most-spec =
