@@ -157,6 +157,55 @@ pub fn tied(f: &Fill) -> bool {
     f.rule == 0 && gate(f) == DONE && fill::ties(&f.outline.rings(), &f.params()) > 0
 }
 
+/// Whether a row has two crossings of equal x, whatever their directions.
+pub fn equal_crossings(f: &Fill) -> bool {
+    if gate(f) != DONE {
+        return false;
+    }
+    let rows = kept(f).into_iter().flat_map(|(top, bottom)| {
+        let first = (top / f.spacing - 0.5).ceil() as i64;
+        let last = (bottom / f.spacing - 0.5).floor() as i64;
+        first..=last
+    });
+    let mut rows: Vec<i64> = rows.collect();
+    rows.sort_unstable();
+    rows.dedup();
+    let shared = |k: i64| {
+        let mut xs = crossings(f, (k as f64 + 0.5) * f.spacing);
+        xs.sort_unstable_by(f64::total_cmp);
+        xs.windows(2).any(|w| w[0] == w[1])
+    };
+    rows.into_iter().any(shared)
+}
+
+/// Where the kept edges cross a row, in the order of the input.
+fn crossings(f: &Fill, y: f64) -> Vec<f64> {
+    let mut xs = Vec::new();
+    for ring in f.outline.rings().iter().filter(|r| r.len() >= 3) {
+        for (i, a) in ring.iter().enumerate() {
+            let b = ring[(i + 1) % ring.len()];
+            let (a, b) = (a.rotate(f.cosine, -f.sine), b.rotate(f.cosine, -f.sine));
+            let (top, low) = if a.y < b.y { (a, b) } else { (b, a) };
+            if low.y - top.y >= 1e-9 && top.y <= y && y < low.y {
+                xs.push(top.x + (y - top.y) * ((low.x - top.x) / (low.y - top.y)));
+            }
+        }
+    }
+    xs
+}
+
+/// What `fill_room` owes: its number, then floats and wholes for as many kept
+/// edges as corners, and in each row half as many pieces.
+pub fn fill_room(f: &Fill) -> [u64; 3] {
+    let answer = gate(f);
+    if answer != DONE {
+        return [answer, 0, 0];
+    }
+    let corners = f.outline.corners.len() as u64 / 2;
+    let pieces = corners / 2 * row_count(f.spacing, &kept(f)) as u64;
+    [DONE, 6 * corners + 4 * pieces, 4 * corners + 6 * pieces]
+}
+
 /// What `tatami` needs of each slice to be done; nothing where it is refused
 /// whatever it is lent. Past `MOST` points it says less than the need.
 pub fn tatami_need(f: &Fill) -> Option<Vec<usize>> {
