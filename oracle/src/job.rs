@@ -49,7 +49,7 @@ fn float(bytes: &mut &[u8]) -> Option<f64> {
 }
 
 /// The fill that some bytes ask for; nothing where they are badly framed.
-fn decode(mut bytes: &[u8]) -> Option<Fill> {
+pub fn decode(mut bytes: &[u8]) -> Option<Fill> {
     let bytes = &mut bytes;
     let length = u32::from_be_bytes(take(bytes)?);
     if length as usize != bytes.len() {

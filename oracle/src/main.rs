@@ -12,13 +12,14 @@ mod rng;
 mod salvage;
 
 use compare::{Function, Group, Job, groups};
+use std::path::Path;
 use std::process::ExitCode;
 
 const USAGE: &str = "usage: oracle compare NAME [--seed S] [--count N]
        oracle bench [NAME] [--seed S]
        oracle labels [NAME]
        oracle once LABEL [--seed S]
-       oracle replay NAME
+       oracle replay FOLDER
 NAME is a function, a group or `all`.";
 
 fn main() -> ExitCode {
@@ -63,13 +64,12 @@ fn run(words: &[String]) -> Result<bool, String> {
             named("all")?.iter().for_each(|f| f.once(label, seed));
             Ok(true)
         }
-        (Some("replay"), Some(name)) => {
-            let replay = groups()
-                .into_iter()
-                .find(|g| g.name == name)
-                .and_then(|g| g.replay)
-                .ok_or(format!("no replay list called {name}"))?;
-            print!("{}", replay());
+        (Some("replay"), Some(folder)) => {
+            let list = compare::replay();
+            for (name, text) in [("stdin", list.calls), ("stdout", list.answers)] {
+                let path = Path::new(folder).join(name);
+                std::fs::write(&path, text).map_err(|e| format!("{}: {e}", path.display()))?;
+            }
             Ok(true)
         }
         _ => Err("no such command".into()),

@@ -216,6 +216,7 @@ dst-entry κs a x y h k = both (one (h .0) (k .0)) (λ i. (tt, (one (h .2) (k .2
 
 pub dst-read-entry : One beahcerot_dst_read.ended beahcerot_dst_read.Reads.Learnt
 dst-read-entry κs a x y h k = both (one (h .0) (k .0)) (λ i. (tt, (one (h .3) (k .3) i, (one (h .4) (k .4) i, (one (h .1) (k .1) i, (one (h .2) (k .2) i, tt))))))
+
 -- ---- broken outlines
 
 pub salvage-entry : One beahcerot_salvage.ended beahcerot_salvage.Reads.Learnt

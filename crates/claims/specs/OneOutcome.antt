@@ -271,6 +271,7 @@ dst-outcome κs a x y h k = both (one (h .0) (k .0)) (λ i. (tt, (one (h .1) (k 
 
 pub dst-read-outcome : One dst_read.ended dst_read.Reads.Learnt
 dst-read-outcome κs a x y h k = both (one (h .0) (k .0)) (λ i. (tt, (one (h .1) (k .1) i, (one (h .2) (k .2) i, tt))))
+
 -- ---- broken outlines
 
 pub salvage-outcome : One salvage.ended salvage.Reads.Learnt

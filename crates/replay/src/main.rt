@@ -1,60 +1,97 @@
-// Replays the lists of the oracle's answers, from standard input, with no Rust at hand: lines of numbers (`lists`), then
-// records of the geometry, running stitch (`geolists`) and the fill (`fillists`). It writes for each function how many
-// agree and how many differ, and for each list all of them, the ones that differ and the bad ones.
-mod record;
+// Reads calls from standard input, makes each of them on the proved library, through its C entries, and writes what it
+// answers and what it leaves in every slice that it was lent. The file `stdout` has what the Rust answers and document 01
+// says; oracle/README.md has the form of both. A line that begins with `#` is a name, and is written as it stands.
+ghost use mathlib.Core.Path.{_≡_};
+ghost use Prim.Native.Nat.{_≤_};
+ghost use lib.ListN.{length};
+
+mod border;
+mod fill;
+mod job;
+mod leaf;
+mod line;
+mod pattern;
+mod point;
+mod read;
 mod say;
+mod shape;
+mod signed;
 
 use libc::STDIN_FILENO;
+use read::LISTS;
+use read::WORDS;
 
-// A line of numbers has 53 bytes, and a space after its letter; a record begins with two words of 17 bytes.
-const LINE: usize = 53;
+const TEXT: usize = 524288;
 
-const HEAD: usize = 34;
-
-// Reads the rest of a line and counts it.
-fn replay_line(line: &mut [u8], agreed: &mut [u64; 256], verdicts: &mut [u64; 3]) {
-    if line.len() < HEAD {
-        return;
+// A function's number is its group, then a digit for its place in it.
+fn call(w: &[usize; WORDS], x: &[f64; WORDS], at: &[usize; LISTS]) {
+    let f = w[0] % 16;
+    match w[0] / 16 {
+        0 => leaf::total(f, x[1], x[2], w[7] as u64),
+        1 => point::value(f, x[1], x[2], x[3], x[4]),
+        2 => point::call(f, w, x),
+        3 => shape::call(f, w, x, at),
+        4 => line::call(f, w, x, at),
+        5 => fill::call(f, w, x, at),
+        6 => border::call(f, w, x, at),
+        7 => pattern::call(f, w, x, at),
+        _ => job::call(w, at),
     }
-    io::read_full(STDIN_FILENO, &mut line[HEAD..]);
-    lists::count_lines(line, agreed, verdicts);
 }
 
-// Replays a line or a record and counts it. False at the end of the input, and where what is left can't be read.
-fn replay_one(agreed: &mut [u64; 256], verdicts: &mut [u64; 3], tally: &mut [u64; 60]) -> bool {
-    let mut text = [0u8; LINE];
-    let n = io::read_full(STDIN_FILENO, &mut text[..HEAD]);
-    if n == 0 {
-        return false;
-    }
-    if text[1] == b' ' {
-        replay_line(&mut text, agreed, verdicts);
-        return true;
-    }
-    record::replay(&text[..HEAD], tally)
+fn answer(line: &[u8]) {
+    let mut w = [0usize; WORDS];
+    let mut at = [0usize; LISTS];
+    read::words(line, &mut w, &mut at);
+    let mut x = [0.0f64; WORDS];
+    read::floats(&w, &mut x);
+    call(&w, &x, &at);
 }
 
-// A proved loop has to end, and nothing says that the input does: the turns count down from a number that no run uses up.
-fn replay_all(agreed: &mut [u64; 256], verdicts: &mut [u64; 3], tally: &mut [u64; 60]) {
-    let mut turns = u64::MAX;
-    while turns > 0 && replay_one(agreed, verdicts, tally) {
-        turns -= 1;
+fn reply(line: &[u8]) {
+    if line.len() > 0 {
+        if line[0] == b'#' {
+            say::text(line);
+        } else {
+            answer(line);
+        }
     }
+    say::text(b"\n");
+}
+
+// Where the line that begins at a place ends.
+fn line_end(text: &[u8], at: usize) -> usize
+    requires { ⌜ at ≤ length (now text) ⌝ }
+    ensures { λ r. ⌜ (at ≤ r) × (r ≤ length (now (text .entry))) ⌝ }
+{
+    let mut i = at;
+    while i < text.len() {
+        if text[i] == b'\n' {
+            return i;
+        }
+        i += 1;
+    }
+    i
+}
+
+fn lines(text: &[u8]) {
+    let mut at = 0;
+    while at < text.len() {
+        let end = line_end(text, at);
+        reply(&text[at..end]);
+        at = end + 1;
+    }
+}
+
+// Room for all of the input. The `ensures` gives only the length, which lending it needs.
+fn space() -> [u8; TEXT]
+    ensures { λ r. ⌜ 524288 ≡ length r ⌝ }
+{
+    [0; TEXT]
 }
 
 fn main() {
-    let mut agreed = [0u64; 256];
-    let mut verdicts = [0u64; 3];
-    let mut tally = [0u64; 60];
-    replay_all(&mut agreed, &mut verdicts, &mut tally);
-    say::numbers(&agreed);
-    say::total(
-        b"replay: ",
-        b" lines, ",
-        verdicts[0],
-        verdicts[1],
-        verdicts[2],
-    );
-    say::geometry(&tally);
-    say::fills(&tally);
+    let mut text = space();
+    let n = io::read_full(STDIN_FILENO, &mut text);
+    lines(&text[..n]);
 }

@@ -1,5 +1,6 @@
 //! Machine files: points to DST records.
 
+use super::records::{self, Call, List, Owed};
 use super::{Function, Operands, Outcome, UNTOUCHED, no_tie};
 use crate::dst;
 use crate::expect::{self, DONE, LAYOUT, NUMBER, ROOM};
@@ -190,4 +191,38 @@ pub fn any(rng: &mut Rng) -> Vec<f64> {
 /// A multiple of a half, or its neighbour.
 fn halves(rng: &mut Rng, most: i64) -> f64 {
     beside(rng.range(-most, most) as f64 / 2.0, rng.range(-1, 1))
+}
+
+/// The replay list of machine files.
+pub fn replay(list: &mut List) {
+    let few = turning().len() * 8;
+    let first = (0..few).step_by(31).filter_map(alone).map(roomy);
+    let any = |rng: &mut Rng| make(rng, u64::MAX);
+    list.sample("dst", 60, first.collect(), any, |s| {
+        let call = Call {
+            function: 0x45,
+            lent: vec![s.room],
+            lists: vec![records::bits(&s.coordinates)?],
+            ..Call::default()
+        };
+        let left = owed(s);
+        let inner = &left.out[GUARD..GUARD + s.room];
+        let owed = Owed {
+            words: vec![left.answer, left.count],
+            slices: vec![inner.iter().map(|&b| b.into()).collect()],
+        };
+        (s.room <= 128).then_some((call, owed))
+    });
+}
+
+/// Lent a little more than is needed.
+fn roomy(coordinates: Vec<f64>) -> Stitches {
+    let room = owed(&Stitches {
+        coordinates: coordinates.clone(),
+        room: 20_000,
+    });
+    Stitches {
+        room: room.count as usize + 2,
+        coordinates,
+    }
 }

@@ -1,6 +1,7 @@
 //! The fill: `tatami` and the row list.
 
-use super::records::{self, Records};
+use super::geom::outline_lists;
+use super::records::{self, List};
 use super::{Function, Operands, Outcome, Tie, list, simplicity};
 use crate::expect::DONE;
 use crate::inputs::boundaries::{boundaries, shapes};
@@ -316,86 +317,50 @@ fn timed_row_list(mut function: Function) -> Function {
     function
 }
 
-/// How many of each function the replay list has, and how much a record may be
-/// lent in one slice.
+/// How many of each function the replay list has.
 const REPLAYED: usize = 75;
-const SMALL: usize = 128;
 
-/// The replay list: functions 15 and 16 of README.md's table.
-pub fn replay() -> String {
-    let mut list = Records::of(REPLAYED);
-    let mut sample = |number, need: Need, slices, owed: Owed| {
-        let first = kept_small().into_iter().map(|fill| Call {
+/// The replay list of the fill.
+pub fn replay(list: &mut List) {
+    let mut sample = |number, name: &str, need: Need, slices, owed: Owed| {
+        let first = shapes().into_iter().map(|fill| Call {
             lent: need(&fill).unwrap_or(vec![8; slices]),
             fill,
         });
         list.sample(
-            number,
+            name,
+            REPLAYED,
             first.collect(),
             |rng| make(rng, usize::MAX, need, slices),
             |c| {
-                let owed = owed_words(owed, c);
+                let call = replayed(number, &c.fill, &c.lent)?;
+                let owed = records::left(&owed(&c.fill, &c.lent, Equal::Original));
                 // Of the fills with no piece only those of four corners.
-                let bare = owed.starts_with(&[DONE, 0]) && c.fill.outline.corners.len() != 8;
-                (!bare).then_some((given_words(c)?, owed))
+                let bare = owed.words[..2] == [DONE, 0] && c.fill.outline.corners.len() != 8;
+                (!bare).then_some((call, owed))
             },
         );
     };
-    sample(15, owed::tatami_need, 4, owed::tatami);
-    sample(16, owed::row_list_need, 5, owed::row_list);
-    list.text()
-}
-
-/// The fills that every list begins with: document 01's K1 to K6.
-fn kept_small() -> Vec<Fill> {
-    let change: [fn(&mut Fill); 6] = [
-        |_| (),
-        |f| f.bottom_up = true,
-        |f| f.len = 5.0,
-        |f| f.stagger = 2,
-        |f| f.inset = 3.5,
-        |f| f.inset = 4.0,
-    ];
-    let k = change.iter().map(|change| {
-        let mut fill = Fill::k1();
-        change(&mut fill);
-        fill
+    sample(0x50, "tatami", owed::tatami_need, 4, owed::tatami);
+    sample(0x51, "row_list", owed::row_list_need, 5, owed::row_list);
+    list.sample("fill_room", 44, shapes(), fills::any, |f| {
+        let owed = records::Owed::of(owed::fill_room(f).to_vec());
+        Some((replayed(0x52, f, &[])?, owed))
     });
-    k.chain(shapes()).collect()
 }
 
-/// A call's operands; nothing where the call is too large for a list or has a NaN.
-fn given_words(c: &Call) -> Option<Vec<u64>> {
-    let f = &c.fill;
-    let (corners, ends) = (&f.outline.corners, &f.outline.ends);
-    let small = corners.len() <= 24 && ends.len() <= 6 && c.lent.iter().all(|&n| n <= SMALL);
-    small.then_some(())?;
-    let mut words: Vec<u64> = c.lent.iter().map(|&n| n as u64).collect();
-    words.push(f.rule);
-    let settings = [f.spacing, f.len, f.inset, f.pull, f.cosine, f.sine];
-    words.extend(records::bits(&settings)?);
-    words.extend([f.stagger, f.bottom_up.into()]);
-    words.extend([corners.len() as u64, ends.len() as u64]);
-    words.extend(records::bits(corners)?);
-    words.extend(ends);
-    Some(words)
-}
-
-/// What a call owes: the number, the counts, and after DONE the front of each
-/// output that holds the answer.
-fn owed_words(owed: Owed, c: &Call) -> Vec<u64> {
-    let equal = if owed::tied(&c.fill) {
-        Equal::Merged
-    } else {
-        Equal::Original
-    };
-    let left = owed(&c.fill, &c.lent, equal);
-    let mut words = vec![left.answer];
-    words.extend(&left.counts);
-    for slice in &left.slices[2..] {
-        let old = fresh(slice.len() - 2 * MARGIN);
-        let changed = slice.iter().zip(&old).rposition(|(new, old)| new != old);
-        words.extend(&slice[MARGIN..changed.map_or(MARGIN, |last| last + 1)]);
-    }
-    words
+/// A fill for a list: small, with no NaN, and with no row that has two crossings
+/// of equal x, which request [2] takes as one.
+pub fn replayed(function: u64, f: &Fill, lent: &[usize]) -> Option<records::Call> {
+    let floats = vec![f.spacing, f.len, f.inset, f.pull, f.cosine, f.sine];
+    records::bits(&floats)?;
+    let lists = outline_lists(&f.outline)?;
+    let sound = lent.iter().all(|&n| n <= 128) && !owed::tied(f);
+    sound.then_some(records::Call {
+        function,
+        floats,
+        wholes: vec![f.rule, f.stagger, f.bottom_up.into()],
+        lent: lent.to_vec(),
+        lists,
+    })
 }

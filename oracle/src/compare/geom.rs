@@ -1,6 +1,6 @@
 //! The geometry: points, outlines, lines.
 
-use super::records::{self, Records, bits};
+use super::records::{self, Call, List, Owed, bits};
 use super::{Answered, Function, Operands, Tie, UNTOUCHED, Written, list, no_tie, simplicity};
 use crate::expect::{self, DONE, LAYOUT, LEN, NUMBER, ROOM, SETTING, STEP, TURN};
 use crate::inputs::{
@@ -527,13 +527,14 @@ fn resample() -> Function {
     )
 }
 
-/// The replay list: functions 1 to 13 of README.md's table.
-pub fn replay() -> String {
-    let mut list = Records::default();
-    replay_points(&mut list);
-    replay_outlines(&mut list);
-    replay_lines(&mut list);
-    list.text()
+/// How many of each function the replay list has.
+pub const EACH: usize = 44;
+
+/// The replay list: numbers, points, outlines and lines of README.md's table.
+pub fn replay(list: &mut List) {
+    replay_points(list);
+    replay_outlines(list);
+    replay_lines(list);
 }
 
 /// Coordinates at the boundaries of what is accepted.
@@ -555,169 +556,174 @@ fn edge_points() -> Vec<[f64; 2]> {
     list
 }
 
-fn replay_points(list: &mut Records) {
-    let mut two = |f, rust: fn(P, P) -> f64| {
-        list.sample(
-            f,
-            edge_pairs(),
-            |rng| two_points(rng, 0),
-            |v| {
-                let value = || bits(&[rust(P::new(v[0], v[1]), P::new(v[2], v[3]))]);
-                Some((bits(v)?, records::owed(numbers_first(v), value)?))
-            },
-        );
-    };
-    two(1, |a, b| a.dot(b));
-    two(3, |a, b| a.dist(b));
-    two(4, geom::cross);
-    let mut one = |f, rust: fn(P) -> Vec<f64>| {
-        list.sample(
-            f,
-            edge_points(),
-            |rng| one_point(rng, 0),
-            |v| {
-                let value = || bits(&rust(P::new(v[0], v[1])));
-                Some((bits(v)?, records::owed(numbers_first(v), value)?))
-            },
-        );
-    };
-    one(2, |a| vec![a.len()]);
-    one(5, |a| flat(a.norm()).to_vec());
-    one(6, |a| flat(a.perp()).to_vec());
-    list.sample(
-        7,
-        edge_points()
-            .iter()
-            .map(|p| [p[0], p[1], 0.0, 1.0])
-            .collect(),
-        |rng| {
-            let ([x, y], (c, s)) = (one_point(rng, 0), turn(rng));
-            [x, y, c, s]
-        },
-        |v| {
-            let [x, y, c, s] = *v;
-            let checks = [
-                (NUMBER, expect::numbers(&[x, y])),
-                (TURN, expect::turn(c, s)),
-            ];
-            let value = || bits(&flat(P::new(x, y).rotate(c, s)));
-            Some((bits(v)?, records::owed(expect::first(&checks), value)?))
-        },
-    );
-    list.sample(
-        8,
-        edges().iter().map(|&t| [1.0, 2.0, 3.0, -4.0, t]).collect(),
-        |rng| {
-            let [ax, ay, bx, by] = two_points(rng, 0);
-            [
-                ax,
-                ay,
-                bx,
-                by,
-                rng.below(100) as f64 / (1 + rng.below(100)) as f64,
-            ]
-        },
-        |v| {
-            let value = || bits(&flat(P::new(v[0], v[1]).lerp(P::new(v[2], v[3]), v[4])));
-            Some((bits(v)?, records::owed(numbers_first(v), value)?))
-        },
-    );
+/// A call of numbers alone; nothing where one is NaN.
+fn numbers_call(function: u64, floats: &[f64]) -> Option<Call> {
+    bits(floats)?;
+    Some(Call {
+        function,
+        floats: floats.to_vec(),
+        ..Call::default()
+    })
 }
 
-/// The words of an outline that is small enough for a list.
-fn outline_words(o: &Outline) -> Option<Vec<u64>> {
-    if o.corners.len() > 24 || o.ends.len() > 6 {
-        return None;
+fn replay_points(list: &mut List) {
+    let two: [(u64, &str, fn(P, P) -> f64); 3] = [
+        (0x17, "dot", |a, b| a.dot(b)),
+        (0x19, "dist", |a, b| a.dist(b)),
+        (0x1a, "cross", geom::cross),
+    ];
+    for (f, name, rust) in two {
+        let make = |rng: &mut Rng| two_points(rng, 0);
+        list.sample(name, EACH, edge_pairs(), make, |v| {
+            let value = || bits(&[rust(P::new(v[0], v[1]), P::new(v[2], v[3]))]);
+            Some((
+                numbers_call(f, v)?,
+                records::values(numbers_first(v), 1, value)?,
+            ))
+        });
     }
-    let mut words = vec![o.corners.len() as u64, o.ends.len() as u64];
-    words.extend(bits(&o.corners)?);
-    words.extend(&o.ends);
-    Some(words)
-}
-
-fn replay_outlines(list: &mut Records) {
-    let rule = |q: &Query| u64::from(q.rule == FillRule::EvenOdd);
-    list.sample(
-        9,
-        vec![],
-        |rng| Query::point(rng, 0),
-        |q| {
-            let mut given = outline_words(&q.outline)?;
-            given.extend(bits(&flat(q.a))?);
-            let answer = expect::first(&q.checks(&flat(q.a)));
-            let value = || {
-                Some(vec![
-                    i64::from(geom::winding(&q.outline.rings(), q.a)) as u64
-                ])
+    let one: [(u64, &str, usize, fn(P) -> Vec<f64>); 3] = [
+        (0x18, "len", 1, |a| vec![a.len()]),
+        (0x20, "norm", 2, |a| flat(a.norm()).to_vec()),
+        (0x21, "perp", 2, |a| flat(a.perp()).to_vec()),
+    ];
+    for (f, name, n, rust) in one {
+        let make = |rng: &mut Rng| one_point(rng, 0);
+        list.sample(name, EACH, edge_points(), make, |v| {
+            let value = || bits(&rust(P::new(v[0], v[1])));
+            Some((
+                numbers_call(f, v)?,
+                records::values(numbers_first(v), n, value)?,
+            ))
+        });
+    }
+    let edge_turns = edge_points()
+        .iter()
+        .map(|p| [p[0], p[1], 0.0, 1.0])
+        .collect();
+    let any_turn = |rng: &mut Rng| {
+        let ([x, y], (c, s)) = (one_point(rng, 0), turn(rng));
+        [x, y, c, s]
+    };
+    list.sample("rotate", EACH, edge_turns, any_turn, |v| {
+        let [x, y, c, s] = *v;
+        let checks = [
+            (NUMBER, expect::numbers(&[x, y])),
+            (TURN, expect::turn(c, s)),
+        ];
+        let value = || bits(&flat(P::new(x, y).rotate(c, s)));
+        let owed = records::values(expect::first(&checks), 2, value)?;
+        Some((numbers_call(0x22, v)?, owed))
+    });
+    let edge_lerps = edges().iter().map(|&t| [1.0, 2.0, 3.0, -4.0, t]).collect();
+    let any_lerp = |rng: &mut Rng| {
+        let [ax, ay, bx, by] = two_points(rng, 0);
+        let t = rng.below(100) as f64 / (1 + rng.below(100)) as f64;
+        [ax, ay, bx, by, t]
+    };
+    list.sample("lerp", EACH, edge_lerps, any_lerp, |v| {
+        let value = || bits(&flat(P::new(v[0], v[1]).lerp(P::new(v[2], v[3]), v[4])));
+        Some((
+            numbers_call(0x23, v)?,
+            records::values(numbers_first(v), 2, value)?,
+        ))
+    });
+    list.name("inside");
+    for rule in 0..2 {
+        for winding in -4..=4_i64 {
+            let call = Call {
+                function: 0x24,
+                wholes: vec![rule, winding as u64],
+                ..Call::default()
             };
-            Some((given, records::owed(answer, value)?))
-        },
-    );
-    list.sample(
-        10,
-        vec![],
-        |rng| Query::point(rng, 0),
-        |q| {
-            let mut given = outline_words(&q.outline)?;
-            given.push(rule(q));
-            given.extend(bits(&flat(q.a))?);
-            let answer = expect::first(&q.checks(&flat(q.a)));
-            let value = || {
-                Some(vec![
-                    geom::point_inside(&q.outline.rings(), q.rule, q.a).into(),
-                ])
-            };
-            Some((given, records::owed(answer, value)?))
-        },
-    );
-    list.sample(
-        11,
-        vec![],
-        |rng| Query::segment(rng, 0),
-        |q| {
-            let mut given = outline_words(&q.outline)?;
-            given.push(rule(q));
-            given.extend(bits(&[q.a.x, q.a.y, q.b.x, q.b.y, q.step])?);
-            let [layout, number] = q.checks(&[q.a.x, q.a.y, q.b.x, q.b.y]);
-            let answer = expect::first(&[layout, number, (SETTING, STEP.contains(&q.step))]);
-            let value = || {
-                let rings = q.outline.rings();
-                Some(vec![
-                    geom::segment_inside(&rings, q.rule, q.a, q.b, q.step).into(),
-                ])
-            };
-            Some((given, records::owed(answer, value)?))
-        },
-    );
+            let words = vec![u64::from(rule_of(rule).inside(winding as i32))];
+            list.add(&(call, Owed::of(words)));
+        }
+    }
 }
 
-/// Whether a call along a line is small enough for a list.
-pub fn small(c: &Cut) -> bool {
-    c.line.len() <= 24 && c.room <= 160
+/// An outline that is small enough for a list, as its two lists of words.
+pub fn outline_lists(o: &Outline) -> Option<Vec<Vec<u64>>> {
+    let small = o.corners.len() <= 24 && o.ends.len() <= 6;
+    small.then_some(())?;
+    Some(vec![bits(&o.corners)?, o.ends.clone()])
 }
 
-/// What a call that writes points owes: its number, the count and the points.
-pub fn owed_points(w: &Written) -> Option<Vec<u64>> {
-    let points = bits(&w.out[..2 * w.count as usize])?;
-    (w.count <= 60).then(|| [vec![w.answer, w.count], points].concat())
+/// A call of an outline, a rule and numbers.
+pub fn outline_call(function: u64, o: &Outline, rule: FillRule, floats: &[f64]) -> Option<Call> {
+    Some(Call {
+        wholes: vec![u64::from(rule == FillRule::EvenOdd)],
+        lists: outline_lists(o)?,
+        ..numbers_call(function, floats)?
+    })
 }
 
-fn replay_lines(list: &mut Records) {
+fn replay_outlines(list: &mut List) {
+    let point = |rng: &mut Rng| Query::point(rng, 0);
+    list.sample("winding", EACH, vec![], point, |q| {
+        let a = flat(q.a);
+        let value = || {
+            Some(vec![
+                i64::from(geom::winding(&q.outline.rings(), q.a)) as u64
+            ])
+        };
+        let owed = records::values(expect::first(&q.checks(&a)), 1, value)?;
+        Some((outline_call(0x30, &q.outline, q.rule, &a)?, owed))
+    });
+    list.sample("point_inside", EACH, vec![], point, |q| {
+        let a = flat(q.a);
+        let value = || {
+            Some(vec![
+                geom::point_inside(&q.outline.rings(), q.rule, q.a).into(),
+            ])
+        };
+        let owed = records::values(expect::first(&q.checks(&a)), 1, value)?;
+        Some((outline_call(0x31, &q.outline, q.rule, &a)?, owed))
+    });
+    let segment = |rng: &mut Rng| Query::segment(rng, 0);
+    list.sample("segment_inside", EACH, vec![], segment, |q| {
+        let ends = [q.a.x, q.a.y, q.b.x, q.b.y];
+        let [layout, number] = q.checks(&ends);
+        let answer = expect::first(&[layout, number, (SETTING, STEP.contains(&q.step))]);
+        let value = || {
+            let rings = q.outline.rings();
+            let inside = geom::segment_inside(&rings, q.rule, q.a, q.b, q.step);
+            Some(vec![inside.into()])
+        };
+        let floats = [q.a.x, q.a.y, q.b.x, q.b.y, q.step];
+        Some((
+            outline_call(0x32, &q.outline, q.rule, &floats)?,
+            records::values(answer, 1, value)?,
+        ))
+    });
+}
+
+/// A call along a line that is small enough for a list; nothing where a number
+/// is NaN.
+pub fn line_call(function: u64, c: &Cut) -> Option<Call> {
+    let small = c.line.len() <= 24 && c.room <= 160;
+    small.then_some(())?;
+    Some(Call {
+        lent: vec![c.room],
+        lists: vec![bits(&c.line)?],
+        ..numbers_call(function, &[c.len])?
+    })
+}
+
+fn replay_lines(list: &mut List) {
     let line = |rng: &mut Rng| Cut {
         line: lines::any(rng, 5.0),
         len: 0.0,
         room: 0,
     };
-    list.sample(12, vec![], line, |c| {
+    list.sample("polyline_length", EACH, vec![], line, |c| {
         let answer = expect::first(&c.checks()[..2]);
         // Document 01 has +0 where the Rust library's empty sum gives -0.
         let value = || bits(&[polyline_length(&points(&c.line)) + 0.0]);
-        small(c).then_some(())?;
-        Some((bits(&c.line)?, records::owed(answer, value)?))
+        Some((line_call(0x40, c)?, records::values(answer, 1, value)?))
     });
-    list.sample(13, vec![], make_cut, |c| {
-        small(c).then_some(())?;
-        let given = [vec![c.room as u64], bits(&[c.len])?, bits(&c.line)?].concat();
-        Some((given, owed_points(&resample_owed(c))?))
+    list.sample("resample_keep_corners", EACH, vec![], make_cut, |c| {
+        let call = line_call(0x41, c)?;
+        Some((call, records::written(&resample_owed(c))?))
     });
 }

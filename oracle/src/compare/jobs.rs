@@ -1,10 +1,14 @@
 //! A job by its bytes: what is printed for it, framing and refusals included.
 
-use super::{Function, Operands, Outcome, no_tie};
+use super::fill::replayed;
+use super::records::{self, Call, List, Owed};
+use super::{Function, Operands, Outcome, UNTOUCHED, no_tie};
+use crate::expect::LAYOUT;
 use crate::filled::filled;
 use crate::inputs::boundaries::boundaries;
 use crate::inputs::fills;
-use crate::job::{job, relength, wanted_of};
+use crate::job::{decode, job, relength, wanted_of};
+use crate::owed::fill;
 use crate::rng::Rng;
 
 pub fn functions() -> Vec<Function> {
@@ -36,6 +40,45 @@ impl Outcome for Listing {
     fn answer(&self) -> Option<u64> {
         self.0.split(' ').next()?.parse().ok()
     }
+}
+
+/// The replay list of jobs: each byte is a word. The outline goes to the front
+/// of two slices that have room for it, also where the fill is then refused.
+pub fn replay(list: &mut List) {
+    let first = [0, 1, 2, 3, 4].map(|n| bytes(&mut Rng::new(n, "job"), n));
+    let any = |rng: &mut Rng| bytes(rng, u64::MAX);
+    list.sample("fill_job", 44, first.into(), any, |b| {
+        let small = b.0.len() <= 250;
+        small.then_some(())?;
+        let call = |lent: Vec<usize>| Call {
+            function: 0x80,
+            lent,
+            lists: vec![b.0.iter().map(|&b| b.into()).collect()],
+            ..Call::default()
+        };
+        let outline = [26, 8];
+        let Some(f) = decode(&b.0) else {
+            let lent = [outline, [6, 5], [4, 3]].concat();
+            let slices = lent.iter().map(|&n| vec![UNTOUCHED; n]).collect();
+            let words = vec![LAYOUT, 0, 0];
+            return Some((call(lent), Owed { words, slices }));
+        };
+        let need = fill::tatami_need(&f).unwrap_or(vec![8; 4]);
+        // Small, with no NaN and no equal crossings, as any fill of the list.
+        replayed(0, &f, &need)?;
+        let left = records::left(&fill::tatami(&f, &need, fill::Equal::Original));
+        let front = |mut words: Vec<u64>, room| {
+            words.resize(room, UNTOUCHED);
+            words
+        };
+        let corners = front(records::bits(&f.outline.corners)?, outline[0]);
+        let ends = front(f.outline.ends.clone(), outline[1]);
+        let owed = Owed {
+            words: left.words,
+            slices: [vec![corners, ends], left.slices].concat(),
+        };
+        Some((call([&outline[..], &need].concat()), owed))
+    });
 }
 
 /// The job of a fill that document 01's framing can say.

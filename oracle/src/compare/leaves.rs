@@ -1,12 +1,12 @@
 //! Number leaves: Rust's own library on the one side, `leaves` on the other.
 
+use super::records::{self, Call, List, Owed, Record};
 use super::{Answered, Function, UNTOUCHED, no_tie};
 use crate::expect::{DONE, NUMBER};
 use crate::inputs::numbers;
 use crate::ours;
 use crate::rng::Rng;
 use std::cmp::Ordering;
-use std::collections::BTreeSet;
 
 const UNLIKE_ZEROS: &str = "zeros of unlike sign";
 const NAN_PLACE: &str = "NaN has no place in the order";
@@ -225,102 +225,164 @@ fn leaf_order() -> Function {
     Function::new("leaf_order", numbers::two, rust, ours, no_tie)
 }
 
-/// The replay list: lines of 53 bytes, a letter, two operands and the result
-/// (README.md). The boundaries of all functions come first, then others of each.
-pub fn replay() -> String {
-    let mut list = Replay {
-        text: String::new(),
-        seen: BTreeSet::new(),
-    };
-    let mut rng = Rng::new(1, "replay");
-    for &x in numbers::corners() {
-        list.one(x);
+/// How many of each function of the checked face the replay list has.
+const EACH: usize = 60;
+
+/// The replay list: functions 0 to 16 of README.md's table. The boundaries come
+/// first, then others.
+pub fn replay(list: &mut List) {
+    let (ones, twos, wholes, roots) = operands();
+    let one: [(&str, fn(f64) -> u64); 6] = [
+        ("root", |x| x.sqrt().to_bits()),
+        ("floor", |x| x.floor().to_bits()),
+        ("ceil", |x| x.ceil().to_bits()),
+        ("magnitude", |x| x.abs().to_bits()),
+        ("to_i64", |x| x as i64 as u64),
+        ("to_u64", |x| x as u64),
+    ];
+    for ((name, rust), number) in one.into_iter().zip([0, 1, 2, 3, 7, 8]) {
+        list.name(name);
+        let more = if name == "root" { &roots[..] } else { &[] };
+        for &x in ones.iter().chain(more) {
+            total(list, number, &[x], rust(x));
+        }
     }
+    let two: [(&str, fn(f64, f64) -> u64); 3] = [
+        ("smaller", |a, b| smaller(a, b).to_bits()),
+        ("larger", |a, b| larger(a, b).to_bits()),
+        ("before", |a, b| (a.total_cmp(&b) == Ordering::Less).into()),
+    ];
+    for ((name, rust), number) in two.into_iter().zip(4..) {
+        list.name(name);
+        for &(a, b) in &twos {
+            total(list, number, &[a, b], rust(a, b));
+        }
+    }
+    let of: [(&str, fn(u64) -> f64); 2] =
+        [("of_i64", |n| n as i64 as f64), ("of_u64", |n| n as f64)];
+    for ((name, rust), number) in of.into_iter().zip(9..) {
+        list.name(name);
+        for &n in &wholes {
+            let call = Call {
+                function: number,
+                wholes: vec![n],
+                ..Call::default()
+            };
+            list.add(&(call, Owed::of(vec![rust(n).to_bits()])));
+        }
+    }
+    replay_checked(list);
+}
+
+/// A call of the total face; one with a NaN, which has no bits in the proved
+/// model, is left out.
+fn total(list: &mut List, function: u64, floats: &[f64], owed: u64) {
+    let nan = floats.iter().any(|x| x.is_nan());
+    let float = !matches!(function, 6..=8);
+    if nan || float && f64::from_bits(owed).is_nan() {
+        return;
+    }
+    let call = Call {
+        function,
+        floats: floats.to_vec(),
+        ..Call::default()
+    };
+    list.add(&(call, Owed::of(vec![owed])));
+}
+
+type Operands = (Vec<f64>, Vec<(f64, f64)>, Vec<u64>, Vec<f64>);
+
+/// Operands of one number, of two, whole numbers, and more for the root alone.
+fn operands() -> Operands {
+    let mut ones = numbers::corners().to_vec();
     // Pairings of these few say all that an order or a choice can get wrong.
     let few = [0.0, 5e-324, f64::MIN_POSITIVE, 1.0, f64::MAX, f64::INFINITY];
     let few: Vec<f64> = few.iter().flat_map(|&x| [x, -x]).collect();
-    for &a in &few {
-        for &b in &few {
-            list.two(a, b);
-        }
-    }
-    for place in 0..64 {
-        for n in [1u64 << place, (1 << place) + 1, (1 << place) - 1] {
-            list.whole(n);
-        }
-    }
-    for length in 1..=52 {
-        list.root(f64::from_bits((1 << length) - 1)); // subnormal
-    }
+    let pairs = few.iter().flat_map(|&a| few.iter().map(move |&b| (a, b)));
+    let mut twos: Vec<(f64, f64)> = pairs.collect();
+    let places = (0..64).map(|place| 1u64 << place);
+    let mut wholes: Vec<u64> = places.flat_map(|n| [n, n + 1, n - 1]).collect();
+    let subnormal = |length: u32| f64::from_bits((1 << length) - 1);
+    let mut roots: Vec<f64> = (1..=52).map(subnormal).collect();
     // Past the boundaries, whose calls come first.
-    let past = u64::MAX;
+    let (mut rng, past) = (Rng::new(1, "replay"), u64::MAX);
     for _ in 0..30 {
         let x = numbers::one(&mut rng, past);
-        list.one(x);
-        list.one(-x);
-        for _ in 0..3 {
-            list.root(numbers::seldom_negative(&mut rng, past).abs());
-        }
-        let (a, b) = numbers::two(&mut rng, past);
-        list.two(a, b);
-        list.whole(numbers::bits(&mut rng, past));
+        ones.extend([x, -x]);
+        roots.extend((0..3).map(|_| numbers::seldom_negative(&mut rng, past).abs()));
+        twos.push(numbers::two(&mut rng, past));
+        wholes.push(numbers::bits(&mut rng, past));
     }
-    list.text
+    (ones, twos, wholes, roots)
 }
 
-struct Replay {
-    text: String,
-    seen: BTreeSet<String>,
+/// Of two zeros of unlike sign by document 01.
+fn smaller(a: f64, b: f64) -> f64 {
+    if unlike_zeros(a, b) { -0.0 } else { a.min(b) }
 }
 
-impl Replay {
-    fn line(&mut self, letter: char, a: u64, b: u64, result: u64) {
-        let line = format!("{letter} {a:016x} {b:016x} {result:016x}\n");
-        if self.seen.insert(line.clone()) {
-            self.text += &line;
-        }
-    }
+fn larger(a: f64, b: f64) -> f64 {
+    if unlike_zeros(a, b) { 0.0 } else { a.max(b) }
+}
 
-    /// A NaN has no bits in the proved model, so a line with one is left out.
-    fn float(&mut self, letter: char, a: u64, b: u64, result: f64) {
-        if !result.is_nan() {
-            self.line(letter, a, b, result.to_bits());
-        }
-    }
+/// What isn't finite, and numbers at the boundaries.
+fn few() -> Vec<f64> {
+    let few = [0.0, 5e-324, 1.0, 2.0, 2.5, f64::MAX, f64::INFINITY];
+    let mut few: Vec<f64> = few.iter().flat_map(|&x| [x, -x]).collect();
+    few.push(f64::NAN);
+    few
+}
 
-    fn root(&mut self, x: f64) {
-        self.float('r', x.to_bits(), 0, x.sqrt());
+/// The public face; here a NaN may stand, since it is refused.
+fn replay_checked(list: &mut List) {
+    let one: [(&str, fn(f64) -> bool, fn(f64) -> f64); 4] = [
+        ("leaf_root", |x| x.is_finite() && x >= 0.0, f64::sqrt),
+        ("leaf_floor", f64::is_finite, f64::floor),
+        ("leaf_ceil", f64::is_finite, f64::ceil),
+        ("leaf_magnitude", f64::is_finite, f64::abs),
+    ];
+    for ((name, defined, rust), number) in one.into_iter().zip(0x10..) {
+        let make = |rng: &mut Rng| numbers::one(rng, u64::MAX);
+        list.sample(name, EACH, few(), make, |&x| {
+            let answer = if defined(x) { DONE } else { NUMBER };
+            checked(number, &[x], answer, || rust(x).to_bits())
+        });
     }
+    let pairs = || {
+        let pairs = few()
+            .into_iter()
+            .flat_map(|a| [(a, 1.0), (-1.0, a), (a, -a)]);
+        pairs.collect::<Vec<_>>()
+    };
+    let two: [(&str, fn(f64, f64) -> u64); 3] = [
+        ("leaf_smaller", |a, b| smaller(a, b).to_bits()),
+        ("leaf_larger", |a, b| larger(a, b).to_bits()),
+        ("leaf_order", |a, b| match a.total_cmp(&b) {
+            Ordering::Less => 0,
+            Ordering::Equal => 1,
+            Ordering::Greater => 2,
+        }),
+    ];
+    for ((name, rust), number) in two.into_iter().zip(0x14..) {
+        let make = |rng: &mut Rng| numbers::two(rng, u64::MAX);
+        list.sample(name, EACH, pairs(), make, |&(a, b)| {
+            let finite = a.is_finite() && b.is_finite();
+            let answer = if finite { DONE } else { NUMBER };
+            checked(number, &[a, b], answer, || rust(a, b))
+        });
+    }
+}
 
-    fn one(&mut self, x: f64) {
-        if x.is_nan() {
-            return;
-        }
-        let bits = x.to_bits();
-        self.root(x);
-        self.float('f', bits, 0, x.floor());
-        self.float('c', bits, 0, x.ceil());
-        self.float('m', bits, 0, x.abs());
-        self.line('i', bits, 0, x as i64 as u64);
-        self.line('u', bits, 0, x as u64);
-    }
-
-    fn two(&mut self, a: f64, b: f64) {
-        if a.is_nan() || b.is_nan() {
-            return;
-        }
-        let tie = unlike_zeros(a, b);
-        let smaller = if tie { -0.0 } else { a.min(b) };
-        let larger = if tie { 0.0 } else { a.max(b) };
-        let before = a.total_cmp(&b) == Ordering::Less;
-        let (a, b) = (a.to_bits(), b.to_bits());
-        self.float('s', a, b, smaller);
-        self.float('l', a, b, larger);
-        self.line('b', a, b, u64::from(before));
-    }
-
-    fn whole(&mut self, n: u64) {
-        self.float('j', n, 0, n as i64 as f64);
-        self.float('v', n, 0, n as f64);
-    }
+fn checked(
+    function: u64,
+    floats: &[f64],
+    answer: u64,
+    value: impl FnOnce() -> u64,
+) -> Option<Record> {
+    let call = Call {
+        function,
+        floats: floats.to_vec(),
+        ..Call::default()
+    };
+    Some((call, records::values(answer, 1, || Some(vec![value()]))?))
 }

@@ -12,9 +12,11 @@ pub mod patterns;
 mod records;
 mod salvage;
 pub mod satin;
+mod sheet;
 pub mod stroke;
 
 use crate::rng::Rng;
+use records::List;
 use std::collections::{BTreeMap, BinaryHeap};
 use std::hint::black_box;
 use std::rc::Rc;
@@ -519,62 +521,48 @@ impl Outcome for WrittenLines {
     }
 }
 
-/// A group's name, its functions, and its replay list if it has one.
+/// A group's name and its functions.
 pub struct Group {
     pub name: &'static str,
     pub functions: Vec<Function>,
-    pub replay: Option<fn() -> String>,
 }
 
 pub fn groups() -> Vec<Group> {
+    let group = |name, functions| Group { name, functions };
     vec![
-        Group {
-            name: "leaves",
-            functions: leaves::functions(),
-            replay: Some(leaves::replay),
-        },
-        Group {
-            name: "geom",
-            functions: geom::functions(),
-            replay: Some(geom::replay),
-        },
-        Group {
-            name: "stroke",
-            functions: stroke::functions(),
-            replay: Some(stroke::replay),
-        },
-        Group {
-            name: "fill",
-            functions: fill::functions(),
-            replay: Some(fill::replay),
-        },
-        Group {
-            name: "jobs",
-            functions: jobs::functions(),
-            replay: None,
-        },
-        Group {
-            name: "patterns",
-            functions: patterns::functions(),
-            replay: None,
-        },
-        Group {
-            name: "satin",
-            functions: satin::functions(),
-            replay: None,
-        },
-        Group {
-            name: "machine",
-            functions: [dst::functions(), dst_read::functions()]
+        group("leaves", leaves::functions()),
+        group("geom", geom::functions()),
+        group("stroke", stroke::functions()),
+        group("fill", fill::functions()),
+        group("jobs", jobs::functions()),
+        group("patterns", patterns::functions()),
+        group("satin", satin::functions()),
+        group(
+            "machine",
+            [dst::functions(), dst_read::functions()]
                 .into_iter()
                 .flatten()
                 .collect(),
-            replay: None,
-        },
-        Group {
-            name: "mending",
-            functions: salvage::functions(),
-            replay: None,
-        },
+        ),
+        group("mending", salvage::functions()),
     ]
+}
+
+/// The replay list: document 01's sheet of checks, then calls of every group.
+pub fn replay() -> List {
+    let mut list = List::default();
+    sheet::replay(&mut list);
+    for group in [
+        leaves::replay,
+        geom::replay,
+        stroke::replay,
+        fill::replay,
+        jobs::replay,
+        satin::replay,
+        patterns::replay,
+        dst::replay,
+    ] {
+        group(&mut list);
+    }
+    list
 }

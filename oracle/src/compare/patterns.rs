@@ -1,5 +1,7 @@
 //! Bounds, clipping and cross stitch.
 
+use super::geom::outline_call;
+use super::records::{self, List};
 use super::{
     Answered, Function, Operands, Tie, UNTOUCHED, WrittenLines, hex, list, no_tie, simplicity,
 };
@@ -382,6 +384,12 @@ fn make_badge(rng: &mut Rng, _: u64) -> Badge {
     }
 }
 
+fn badge_owed(b: &Badge) -> WrittenLines {
+    owed_lines(badge_refusal(&b.outline, b.cell), b.room, || {
+        patterns::cross_stitch(&b.outline.rings(), b.rule, b.cell)
+    })
+}
+
 fn cross_stitch() -> Function {
     let of = |b: &(Outline, Vec<Polyline>, f64), lent: Lent| {
         ours::cross_stitch(&b.0, FillRule::NonZero, b.2, lent)
@@ -389,11 +397,7 @@ fn cross_stitch() -> Function {
     Function::new(
         "cross_stitch",
         make_badge,
-        |b| {
-            owed_lines(badge_refusal(&b.outline, b.cell), b.room, || {
-                patterns::cross_stitch(&b.outline.rings(), b.rule, b.cell)
-            })
-        },
+        badge_owed,
         |b| {
             gave_lines(b.room, |lent| {
                 ours::cross_stitch(&b.outline, b.rule, b.cell, lent)
@@ -422,4 +426,37 @@ fn cross_stitch() -> Function {
         |(_, rings, cell)| patterns::cross_stitch(rings, FillRule::NonZero, *cell),
         lent(PLENTY, of),
     )
+}
+
+// ---- the replay list
+
+/// How many of each function it has.
+const REPLAYED: usize = 44;
+
+pub fn replay(list: &mut List) {
+    list.sample("bounds", REPLAYED, vec![], outlines::any, |o| {
+        let owed = unlike_zeros(o).map_or_else(|| bounds_owed(o), |(_, owed)| owed);
+        let value = || records::bits(&owed.value);
+        Some((
+            outline_call(0x33, o, FillRule::NonZero, &[])?,
+            records::values(owed.answer, 4, value)?,
+        ))
+    });
+    let clip = |rng: &mut Rng| make_clip(rng, 0);
+    list.sample("clip_inside", REPLAYED, vec![], clip, |c| {
+        let small = c.line.len() <= 16 && c.room.floats <= 128 && c.room.stops <= 32;
+        small.then_some(())?;
+        let mut call = outline_call(0x70, &c.outline, c.rule, &[])?;
+        call.lists.push(records::bits(&c.line)?);
+        call.lent = vec![c.room.floats, c.room.stops];
+        Some((call, records::lines(&clip_owed(c))?))
+    });
+    let badge = |rng: &mut Rng| make_badge(rng, 0);
+    list.sample("cross_stitch", REPLAYED, vec![], badge, |b| {
+        let small = b.room.floats <= 128 && b.room.stops <= 32;
+        small.then_some(())?;
+        let mut call = outline_call(0x71, &b.outline, b.rule, &[b.cell])?;
+        call.lent = vec![b.room.floats, b.room.stops];
+        Some((call, records::lines(&badge_owed(b))?))
+    });
 }

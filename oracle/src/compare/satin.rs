@@ -1,5 +1,6 @@
 //! Satin columns: `split_long`, `s_stitch`, `pairs`, `column` and the room for the last two; the two halves of a column, and both joined.
 
+use super::records::{self, List};
 use super::{Function, Operands, Outcome, hex, list, no_tie, simplicity};
 use crate::expect::DONE;
 use crate::inputs::borders;
@@ -38,8 +39,8 @@ pub fn functions() -> Vec<Function> {
     ]
 }
 
-fn split_long() -> Function {
-    let calls = Calls {
+fn split_calls() -> Calls<Path> {
+    Calls {
         name: "split_long",
         small: boundaries::paths,
         large: Vec::new,
@@ -49,7 +50,11 @@ fn split_long() -> Function {
         slices: 1,
         counts: 1,
         ours: |p, lent, counts| ours::split_long(p, lent[0], &mut counts[0]),
-    };
+    }
+}
+
+fn split_long() -> Function {
+    let calls = split_calls();
     let path = borders::path();
     let pts = points(&path.line);
     function(&calls).timed_on(
@@ -60,8 +65,8 @@ fn split_long() -> Function {
     )
 }
 
-fn s_stitch() -> Function {
-    let calls = Calls {
+fn bent_calls() -> Calls<Path> {
+    Calls {
         name: "s_stitch",
         small: boundaries::paths,
         large: Vec::new,
@@ -71,7 +76,11 @@ fn s_stitch() -> Function {
         slices: 1,
         counts: 1,
         ours: |p, lent, counts| ours::s_stitch(&p.line, lent[0], &mut counts[0]),
-    };
+    }
+}
+
+fn s_stitch() -> Function {
+    let calls = bent_calls();
     let path = borders::path();
     let pts = points(&path.line);
     function(&calls).timed_on(
@@ -466,4 +475,95 @@ impl<I: Clone, R> Timed<I, R> {
         assert_eq!((self.call)(&self.given, &mut lent, &mut count), DONE);
         count[0]
     }
+}
+
+/// How many of each function the replay list has.
+const REPLAYED: usize = 60;
+
+/// The replay list: lines split and bent, columns and their rooms.
+pub fn replay(list: &mut List) {
+    let path = |number| move |p: &Path, lent: &[usize]| path_call(number, p, lent);
+    replay_calls(list, split_calls(), path(0x43));
+    replay_calls(list, bent_calls(), path(0x44));
+    replay_calls(list, pairs_calls(), |m, lent| {
+        rails_call(0x60, &m.rails, &[m.step], lent)
+    });
+    replay_calls(list, column_calls(), |c, lent| column_call(0x62, c, lent));
+    let rooms = [boundaries::matched(), boundaries::large_matched()].concat();
+    list.sample("pairs_room", REPLAYED, few(rooms), rails::matched, |m| {
+        let call = rails_call(0x61, &m.rails, &[m.step], &[])?;
+        Some((call, enough(&owed::pairs_room(m))))
+    });
+    let rooms = [boundaries::columns(), boundaries::large_columns()].concat();
+    list.sample("column_room", REPLAYED, few(rooms), rails::column, |c| {
+        Some((column_call(0x63, c, &[])?, enough(&owed::column_room(c))))
+    });
+}
+
+/// One in eleven of the calls at the boundaries.
+fn few<I>(list: Vec<I>) -> Vec<I> {
+    list.into_iter().step_by(11).take(20).collect()
+}
+
+fn enough(e: &Enough) -> records::Owed {
+    records::Owed::of(vec![e.answer, e.floats])
+}
+
+fn replay_calls<I: Operands + Clone>(
+    list: &mut List,
+    calls: Calls<I>,
+    call: impl Fn(&I, &[usize]) -> Option<records::Call>,
+) {
+    let lent = |given: I, way: usize| {
+        let need = (calls.need)(&given).unwrap_or((5..5 + calls.slices).collect());
+        Call {
+            lent: lend(way, &need),
+            given,
+        }
+    };
+    let first = few((calls.small)()).into_iter().map(|given| lent(given, 0));
+    let any = |rng: &mut Rng| {
+        let way = rng.index(ways(calls.slices));
+        lent((calls.any)(rng), way)
+    };
+    list.sample(calls.name, REPLAYED, first.collect(), any, |c| {
+        let call = call(&c.given, &c.lent)?;
+        Some((call, records::left(&(calls.owed)(&c.given, &c.lent))))
+    });
+}
+
+fn path_call(function: u64, p: &Path, lent: &[usize]) -> Option<records::Call> {
+    let small = p.line.len() <= 24 && lent.iter().all(|&n| n <= 128);
+    small.then_some(())?;
+    records::bits(&[p.max])?;
+    Some(records::Call {
+        function,
+        floats: vec![p.max],
+        lent: lent.to_vec(),
+        lists: vec![records::bits(&p.line)?],
+        ..records::Call::default()
+    })
+}
+
+fn rails_call(function: u64, r: &Rails, floats: &[f64], lent: &[usize]) -> Option<records::Call> {
+    let words = r.a.len() + r.b.len() + r.sync.len();
+    let small = words <= 48 && lent.iter().all(|&n| n <= 256);
+    small.then_some(())?;
+    records::bits(floats)?;
+    let bits = records::bits;
+    Some(records::Call {
+        function,
+        floats: floats.to_vec(),
+        lent: lent.to_vec(),
+        lists: vec![bits(&r.a)?, bits(&r.b)?, bits(&r.sync)?],
+        ..records::Call::default()
+    })
+}
+
+fn column_call(function: u64, c: &Column, lent: &[usize]) -> Option<records::Call> {
+    let floats = [c.spacing, c.pull, c.run_len, c.split];
+    Some(records::Call {
+        wholes: vec![c.underlay, c.short_stitches.into(), c.style],
+        ..rails_call(function, &c.rails, &floats, lent)?
+    })
 }

@@ -1,7 +1,7 @@
 //! Running stitch.
 
-use super::geom::{Cut, gave, lent, owed_points, plain_line, small, written};
-use super::records::{Records, bits};
+use super::geom::{Cut, EACH, gave, lent, line_call, plain_line, written};
+use super::records::{self, Call, List};
 use super::{Function, Operands, Written, no_tie};
 use crate::expect::{self, LEN, PASSES, SETTING};
 use crate::inputs::{lines, numbers::setting, outlines::points};
@@ -82,22 +82,14 @@ fn running() -> Function {
     )
 }
 
-/// The replay list: function 14 of README.md's table.
-pub fn replay() -> String {
-    let mut list = Records::default();
-    list.sample(
-        14,
-        vec![],
-        |rng| make(rng, 0),
-        |r| {
-            small(&r.cut).then_some(())?;
-            let (closed, cut) = (u64::from(r.closed), &r.cut);
-            let mut given = vec![cut.room as u64, closed];
-            given.extend(bits(&[cut.len])?);
-            given.push(r.passes);
-            given.extend(bits(&cut.line)?);
-            Some((given, owed_points(&running_owed(r))?))
-        },
-    );
-    list.text()
+/// The replay list of running stitch.
+pub fn replay(list: &mut List) {
+    let any = |rng: &mut Rng| make(rng, 0);
+    list.sample("running", EACH, vec![], any, |r| {
+        let call = Call {
+            wholes: vec![r.closed.into(), r.passes],
+            ..line_call(0x42, &r.cut)?
+        };
+        Some((call, records::written(&running_owed(r))?))
+    });
 }

@@ -157,6 +157,18 @@ pub fn tied(f: &Fill) -> bool {
     gate(f) == DONE && fill::ties(&f.outline.rings(), &f.params()) > 0
 }
 
+/// What `fill_room` owes: its number, then floats and wholes for as many kept
+/// edges as corners, and in each row half as many pieces.
+pub fn fill_room(f: &Fill) -> [u64; 3] {
+    let answer = gate(f);
+    if answer != DONE {
+        return [answer, 0, 0];
+    }
+    let corners = f.outline.corners.len() as u64 / 2;
+    let pieces = corners / 2 * row_count(f.spacing, &kept(f)) as u64;
+    [DONE, 6 * corners + 4 * pieces, 4 * corners + 6 * pieces]
+}
+
 /// What `tatami` needs of each slice to be done; nothing where it is refused
 /// whatever it is lent. Past `MOST` points it says less than the need.
 pub fn tatami_need(f: &Fill) -> Option<Vec<usize>> {

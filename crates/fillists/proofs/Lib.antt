@@ -1,2 +1,0 @@
--- Laws that the proofs of `fillists` share.
-pub mod Laws

@@ -1,5 +1,0 @@
--- What the contracts of `geolists` cite.
-pub mod Words
-pub mod Said
-pub mod Asked
-pub mod Compared
