@@ -1,4 +1,4 @@
-// The square root, digit by digit: no 128 bits, no multiplication of what is left.
+// The square root as one writes it out with a pencil, digit by digit: additions, subtractions, shifts and comparisons, and nothing else (request [4]).
 ghost use mathlib.Core.Path.{_≡_};
 ghost use Prim.Native.Nat.{_+_, _*_, _^_, _<_, _≤_};
 ghost use lib.Ieee.{binary64, ofBits};
@@ -53,13 +53,13 @@ fn root_units(d: u64, a: u64) -> f64
     requires { ⌜ (2 ^ 52 ≤ d) × (d < 2 ^ 53) × (52 ≤ a) × (a ≤ 4000) ⌝ }
     ensures { λ r. ⌜ r ≡ rootUnits (d * 2 ^ a) ⌝ }
 {
-    let k = (a - 52) / 2;
-    if a % 2 == 0 {
+    let k = (a - 52) >> 1;
+    if k + k + 52 == a {
         let q = near_root(d);
-        f64::from_bits(k * 4503599627370496 + q)
+        f64::from_bits((k << 52) + q)
     } else {
-        let q = near_root(d * 2);
-        f64::from_bits(k * 4503599627370496 + q)
+        let q = near_root(d + d);
+        f64::from_bits((k << 52) + q)
     }
 }
 
@@ -72,8 +72,8 @@ fn root_pattern(b: u64) -> f64
         let z = u64::leading_zeros(b) - 11;
         root_units(b << z, 1074 - (z as u64))
     } else {
-        let e = b / 4503599627370496;
-        root_units(b % 4503599627370496 + 4503599627370496, e + 1073)
+        let e = b >> 52;
+        root_units(b - (e << 52) + 4503599627370496, e + 1073)
     }
 }
 

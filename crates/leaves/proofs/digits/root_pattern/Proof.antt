@@ -1,6 +1,5 @@
-use mathlib.Core.Path.{sym, ap, _∙_}
+use mathlib.Core.Path.{_≡_, sym, ap, _∙_}
 use Prim.Native.Nat.{ℕ, _+_, _-_, _*_, _/_, _%_, _^_}
-use native.Mathlib.Nat.{add-comm}
 use native.Mathlib.Omega.{arith}
 use lib.Count.{leadingZeros}
 use Rattle.numbers.specs.Root.{root, rootUnits}
@@ -31,15 +30,6 @@ sub-root-units c = omega (arith, at c)
 root-units-requires : tie.Need-root-units-requires
 root-units-requires c κs = omega (arith, at c)
 
-add-root-units : tie.Need-add-root-units
-add-root-units c = search needs
-
-add-root-units-2 : tie.Need-add-root-units-2
-add-root-units-2 c = search needs
-
-root-units-requires-2 : tie.Need-root-units-requires-2
-root-units-requires-2 c κs = search needs
-
 returns : tie.Need-returns
 returns c =
     let b = c .before .before .args .b in
@@ -55,23 +45,12 @@ returns-2 c =
     let b = c .before .before .args .b in
     let e = b / 2 ^ 52 in
     let d = 2 ^ 52 + b % 2 ^ 52 in
+    let low : b - e * 2 ^ 52 % 2 ^ 64 + 2 ^ 52 ≡ d = omega (arith, c .before .before .pre .1) in
     c .root-units2 .ensures
-    ∙ ap (λ (x : ℕ). rootUnits (x * 2 ^ (e + 1073))) (add-comm (b % 2 ^ 52) (2 ^ 52))
+    ∙ ap (λ (x : ℕ). rootUnits (x * 2 ^ (e + 1073))) low
     ∙ ap (rootUnits) (placed-same d e (omega arith))
     ∙ sym (ap (root) (read-mid b (c .before .if1 .left) (c .before .before .pre .1)) ∙ root-odd 53 d (e - 1) (omega arith))
 
 pub root-pattern-spec : {M : Type 1} → statement M
 root-pattern-spec =
-    tie.close
-    (tie.spec
-    sub-z
-    cast-root-units
-    shl-root-units
-    cast-root-units-2
-    sub-root-units
-    root-units-requires
-    add-root-units
-    add-root-units-2
-    root-units-requires-2
-    returns
-    returns-2)
+    tie.close (tie.spec sub-z cast-root-units shl-root-units cast-root-units-2 sub-root-units root-units-requires (λ c. search needs) (λ c. search needs) (λ c. search needs) (λ c κs. search needs) returns returns-2)

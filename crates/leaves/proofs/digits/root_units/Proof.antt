@@ -1,6 +1,6 @@
-use mathlib.Core.Path.{sym, ap, subst, _∙_}
+use mathlib.Core.Path.{_≡_, sym, ap, subst, _∙_}
 use mathlib.Core.Bool.{Bool, not}
-use Prim.Native.Nat.{ℕ, _-_, _*_, _/_, _^_}
+use Prim.Native.Nat.{ℕ, _-_, _*_, _/_, _%_, _^_, _≤_}
 use native.Mathlib.Nat.{mul-one}
 use native.Mathlib.Omega.{arith}
 use lib.Dec.{T}
@@ -12,41 +12,21 @@ use borrow.Author.Needs.{needs}
 use Rattle.leaves.proofs.digits.root_units.Statement.{statement}
 use Rattle.leaves.proofs.digits.root_units.Tie as tie
 
-sub-k : tie.Need-sub-k
-sub-k c = search needs
-
-near-root-requires : tie.Need-near-root-requires
-near-root-requires c κs = search needs
-
-mul-result : tie.Need-mul-result
-mul-result c = search needs
-
-add-result : tie.Need-add-result
-add-result c = search needs
+-- the shift by 52 loses nothing
+shifted : (k : ℕ) → k ≤ 2047 → k * 4503599627370496 % 18446744073709551616 ≡ k * 4503599627370496
+shifted k h = omega (arith, h)
 
 float-from-bits-result : tie.Need-float-from-bits-result
 float-from-bits-result c =
     let k = (c .before .before .args .a - 52) / 2 in
     let f = c .near-root .ensures in
-    subst (λ (b : Bool). T (not b)) (sym (encode-no-nan (c .near-root .result) k (f .1) (f .2) (omega arith))) tt
-
-mul-near-root : tie.Need-mul-near-root
-mul-near-root c = search needs
-
-near-root-requires-2 : tie.Need-near-root-requires-2
-near-root-requires-2 c κs = search needs
-
-mul-result-2 : tie.Need-mul-result-2
-mul-result-2 c = search needs
-
-add-result-2 : tie.Need-add-result-2
-add-result-2 c = search needs
+    rw (shifted k (omega arith)) (subst (λ (b : Bool). T (not b)) (sym (encode-no-nan (c .near-root .result) k (f .1) (f .2) (omega arith))) tt)
 
 float-from-bits-result-2 : tie.Need-float-from-bits-result-2
 float-from-bits-result-2 c =
     let k = (c .before .before .args .a - 52) / 2 in
     let f = c .near-root2 .ensures in
-    subst (λ (b : Bool). T (not b)) (sym (encode-no-nan (c .near-root2 .result) k (f .1) (f .2) (omega arith))) tt
+    rw (shifted k (omega arith)) (subst (λ (b : Bool). T (not b)) (sym (encode-no-nan (c .near-root2 .result) k (f .1) (f .2) (omega arith))) tt)
 
 returns : tie.Need-returns
 returns c =
@@ -55,9 +35,9 @@ returns c =
     let p = c .before .before .pre in
     let k = (a - 52) / 2 in
     let f = c .near-root .ensures in
-    encode (c .near-root .result) k (f .1) (f .2) (omega arith)
+    rw (shifted k (omega arith)) (encode (c .near-root .result) k (f .1) (f .2) (omega arith)
     ∙ ap (λ (q : ℕ). odd 54 Bool.false q k 1074) (f .0 ∙ ap (λ (x : ℕ). nearRoot 53 (x * 2 ^ 52)) (sym (mul-one d)))
-    ∙ sym (rootUnits-at d a k 0 (p .0) (p .1) (omega arith) (omega arith))
+    ∙ sym (rootUnits-at d a k 0 (p .0) (p .1) (omega arith) (omega arith)))
 
 returns-2 : tie.Need-returns-2
 returns-2 c =
@@ -66,23 +46,10 @@ returns-2 c =
     let p = c .before .before .pre in
     let k = (a - 52) / 2 in
     let f = c .near-root2 .ensures in
-    encode (c .near-root2 .result) k (f .1) (f .2) (omega arith)
-    ∙ ap (λ (q : ℕ). odd 54 Bool.false q k 1074) (f .0)
-    ∙ sym (rootUnits-at d a k 1 (p .0) (p .1) (omega arith) (omega arith))
+    rw (shifted k (omega arith)) (encode (c .near-root2 .result) k (f .1) (f .2) (omega arith)
+    ∙ ap (λ (q : ℕ). odd 54 Bool.false q k 1074) (f .0 ∙ ap (λ (x : ℕ). nearRoot 53 (x * 2 ^ 52)) (omega arith))
+    ∙ sym (rootUnits-at d a k 1 (p .0) (p .1) (omega arith) (omega arith)))
 
 pub root-units-spec : {M : Type 1} → statement M
 root-units-spec =
-    tie.close
-    (tie.spec
-    sub-k
-    near-root-requires
-    mul-result
-    add-result
-    float-from-bits-result
-    mul-near-root
-    near-root-requires-2
-    mul-result-2
-    add-result-2
-    float-from-bits-result-2
-    returns
-    returns-2)
+    tie.close (tie.spec (λ c. search needs) (λ c. search needs) (λ c. search needs) (λ c κs. search needs) (λ c. search needs) float-from-bits-result (λ c. search needs) (λ c κs. search needs) (λ c. search needs) float-from-bits-result-2 returns returns-2)
