@@ -1,7 +1,6 @@
 // Reads calls from standard input, makes each of them on the proved library, through its C entries, and writes what it
 // answers and what it leaves in every slice that it was lent. The file `stdout` has what the Rust answers and document 01
 // says; oracle/README.md has the form of both. A line that begins with `#` is a name, and is written as it stands.
-ghost use mathlib.Core.Path.{_≡_};
 ghost use Prim.Native.Nat.{_≤_};
 ghost use lib.ListN.{length};
 
@@ -20,8 +19,6 @@ mod signed;
 use libc::STDIN_FILENO;
 use read::LISTS;
 use read::WORDS;
-
-const TEXT: usize = 524288;
 
 // A function's number is its group, then a digit for its place in it.
 fn call(w: &[usize; WORDS], x: &[f64; WORDS], at: &[usize; LISTS]) {
@@ -83,15 +80,18 @@ fn lines(text: &[u8]) {
     }
 }
 
-// Room for all of the input. The `ensures` gives only the length, which lending it needs.
-fn space() -> [u8; TEXT]
-    ensures { λ r. ⌜ 524288 ≡ length r ⌝ }
-{
-    [0; TEXT]
-}
-
-fn main() {
-    let mut text = space();
+// Answers the next block of the input, whose last line ends with it. False where there is none.
+fn block() -> bool {
+    let mut text = io::large_buffer();
     let n = io::read_full(STDIN_FILENO, &mut text);
     lines(&text[..n]);
+    n > 0
+}
+
+// A proved loop has to end, and nothing says that the input does: the turns count down from a number that no run uses up.
+fn main() {
+    let mut turns = u64::MAX;
+    while turns > 0 && block() {
+        turns -= 1;
+    }
 }

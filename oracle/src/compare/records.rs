@@ -15,6 +15,9 @@ const REFUSED: usize = 4;
 const ROOM: u64 = 256;
 const WORDS: usize = 400;
 
+/// How many bytes the program reads at a time.
+const BLOCK: usize = 65_536;
+
 #[derive(Default)]
 pub struct Call {
     pub function: u64,
@@ -53,9 +56,24 @@ pub struct List {
 impl List {
     /// A name stands in both files.
     pub fn name(&mut self, name: &str) {
-        for text in [&mut self.calls, &mut self.answers] {
-            *text += &format!("# {name}\n");
+        let line = format!("# {name}\n");
+        self.push(&line, &line);
+    }
+
+    /// A line of each file. The program reads the calls in blocks, so none may
+    /// cross a block's end: a name of dots fills what is left of a block.
+    fn push(&mut self, call: &str, answer: &str) {
+        let left = BLOCK - self.calls.len() % BLOCK;
+        if call.len() > left {
+            let dots = match left {
+                1 => "\n".to_string(),
+                _ => format!("#{}\n", ".".repeat(left - 2)),
+            };
+            self.calls += &dots;
+            self.answers += &dots;
         }
+        self.calls += call;
+        self.answers += answer;
     }
 
     /// False where the list has this call already, or it is too large for it.
@@ -66,8 +84,7 @@ impl List {
         if large || !self.seen.insert(line.clone()) {
             return false;
         }
-        self.calls += &line;
-        self.answers += &answer_line(owed);
+        self.push(&line, &answer_line(owed));
         true
     }
 
