@@ -6,7 +6,7 @@ use mathlib.Core.Bool.{true, _&&_}
 use mathlib.Core.Logic.{inl, inr}
 use mathlib.Core.List.{List, [], _∷_, _++_, map, append-assoc}
 use lib.Dec.{eqb, leb}
-use lib.ListN.{length, take, drop, length-append, length-drop, take-append-drop}
+use lib.ListN.{length, length-map, take, drop, length-append, length-drop, take-append-drop}
 use lib.Ieee.{Float}
 use lib.Seq.{take-at, drop-at, drop-drop, drop-length, length-take-le}
 use borrow.Author.Tests.{eqb-true, leb-true, le-leb, eq-eqb}
@@ -149,14 +149,10 @@ unfolding droppedReasons
 reasons-length [] = refl
 reasons-length (m ∷ ms) = elim (either (kept m)) [ inl e ↦ rw e (omega (arith, reasons-length ms)) | inr e ↦ rw e (omega (arith, reasons-length ms)) ]
 
-map-length : {A B : Type 0} (f : A → B) (l : List A) → length (map f l) ≡ length l
-map-length f [] = refl
-map-length f (a ∷ l) = ap suc (map-length f l)
-
 -- the ring count stays
 pub ends-size : (corners : List Float) (ends : List ℕ) → length (keptEnds corners ends) ≡ length ends
 unfolding keptEnds keptRings rings
-ends-size corners ends = ends-length 0 (map keptRing (cut 0 ends (points corners))) ∙ map-length keptRing (cut 0 ends (points corners)) ∙ cut-length 0 ends (points corners)
+ends-size corners ends = ends-length 0 (map keptRing (cut 0 ends (points corners))) ∙ length-map (cut 0 ends (points corners)) keptRing ∙ cut-length 0 ends (points corners)
 
 module _ (corners : List Float) (ends : List ℕ) (rise : rising 0 ends (length corners / 2) ≡ true) where
   pub kept-count : length (join (keptRings corners ends)) ≡ count (marks corners ends)

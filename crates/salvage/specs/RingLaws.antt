@@ -6,7 +6,7 @@ use mathlib.Core.Bool.{true, false, _&&_, cond}
 use mathlib.Core.Logic.{inl, inr}
 use mathlib.Core.List.{List, [], _∷_, _++_, map}
 use lib.Dec.{eqb, leb}
-use lib.ListN.{length, getD, set, replicate}
+use lib.ListN.{length, length-map, getD, set, replicate}
 use borrow.Author.Tests.{eqb-true, eqb-false}
 use Rattle.seqs.specs.Lists.{sift}
 use Rattle.seqs.specs.Tests.{either}
@@ -30,17 +30,13 @@ unfolding markLast
 markLast-length [] = refl
 markLast-length (m ∷ ms) = elim (either (kept m && eqb (count ms) 0)) [ inl e ↦ rw e | inr e ↦ rw e (ap suc (markLast-length ms)) ]
 
-pub few-length : (ms : List ℕ) → length (map few ms) ≡ length ms
-few-length [] = refl
-few-length (m ∷ ms) = ap suc (few-length ms)
-
 pub closed-length : (ps : List P) (ms : List ℕ) → length (closed ps ms) ≡ length ms
 unfolding closed
 closed-length ps ms = elim (either (closes (left ms ps))) [ inl e ↦ rw e (markLast-length ms) | inr e ↦ rw e ]
 
 cleared-length : (ps : List P) (ms : List ℕ) → length (cleared ps ms) ≡ length ms
 unfolding cleared
-cleared-length ps ms = elim (either (leb 3 (length (left ms ps)))) [ inl e ↦ rw e | inr e ↦ rw e (few-length ms) ]
+cleared-length ps ms = elim (either (leb 3 (length (left ms ps)))) [ inl e ↦ rw e | inr e ↦ rw e (length-map ms few) ]
 
 pub marks-length : (ps : List P) → length (ringMarks ps) ≡ length ps
 unfolding ringMarks

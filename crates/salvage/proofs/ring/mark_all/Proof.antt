@@ -2,11 +2,10 @@ use mathlib.Core.Path.{_∙_}
 use mathlib.Core.List.{map}
 use Prim.Native.Nat.{_-_, _≤_}
 use native.Mathlib.Omega.{arith}
-use lib.ListN.{length, drop}
+use lib.ListN.{length, length-map, drop}
 use Rattle.seqs.specs.Front.{Front, front-start, front-at, front-push, front-ahead, front-end}
 use Rattle.seqs.specs.Reads.{whole}
 use Rattle.salvage.specs.Ring.{few}
-use Rattle.salvage.specs.RingLaws.{few-length}
 use Rattle.salvage.proofs.Turns.{few-turn, few-end}
 use borrow.Author.Needs.{needs}
 use Rattle.salvage.proofs.ring.mark_all.Statement.{statement}
@@ -30,7 +29,7 @@ loop-again c =
 returns : tie.Need-returns Inv-loop μ-loop
 returns c =
     let d = c .before .before .before .args .marks .now in
-    front-end (front-at (few-end d (c .before .loop .i) (omega (arith, c .before .loop .inv .1 .len))) (c .before .loop .inv .1)) ∙ whole (map few d) d (few-length d)
+    front-end (front-at (few-end d (c .before .loop .i) (omega (arith, c .before .loop .inv .1 .len))) (c .before .loop .inv .1)) ∙ whole (map few d) d (length-map d few)
 
 pub mark-all-spec : {M : Type 1} → statement M
 mark-all-spec =
