@@ -19,7 +19,6 @@ use Rattle.numbers.specs.Laws.{smaller-has, larger-has}
 use Rattle.seqs.specs.Lists.{upto, sift, each, fold, sortBy, All, Sorted}
 use Rattle.seqs.specs.Tests.{either, refute, clash}
 use Rattle.seqs.specs.All.{all-map, all-perm, all-sift}
-use Rattle.seqs.specs.Front.{next}
 use Rattle.seqs.specs.Front as front
 use Rattle.seqs.specs.Sift.{sift-map, sift-perm}
 use Rattle.seqs.specs.Sort.{sort-perm, perm-length}
@@ -57,7 +56,7 @@ unsorted y es = map (crossAt y) (sift (crosses y) es)
 
 read-from : {A : Type 0} (l : List A) (z : A) (i n : ℕ) → i + n ≡ length l → map (λ j. getD l j z) (upto i n) ≡ drop i l
 read-from l z i zero e = sym (front.none l i (omega arith))
-read-from l z i (suc n) e = ap (λ r. getD l i z ∷ r) (read-from l z (i + 1) n (omega arith)) ∙ sym (next l i z (omega arith))
+read-from l z i (suc n) e = ap (λ r. getD l i z ∷ r) (read-from l z (i + 1) n (omega arith)) ∙ sym (front.next l i z (omega arith))
 
 by-edge : (es : List Edge) (y : Float) → map (crossing es y) (sift (λ i. starts es y i && lives es y i) (upto 0 (length es))) ≡ unsorted y es
 unfolding crossing crossX starts lives

@@ -14,6 +14,7 @@ use Rattle.seqs.specs.Lists.{All, Sorted}
 use Rattle.seqs.specs.Tests.{is-true, refute, clash}
 use Rattle.seqs.specs.All.{all-perm}
 use Rattle.rules.specs.Fill.{sameX, mergedFrom, merged}
+use Rattle.rules.specs.Merged.{either}
 
 -- ---- numbers by `before`
 
@@ -127,11 +128,9 @@ agree x z e = eq-eqb (toBits binary64 x) (toBits binary64 z) (ap (toBits binary6
 add-before : (x z : Float) (d f : ℤ) (cs : List (Float × ℤ)) → before x z ≡ true → add x d (mergedFrom z f cs) ≡ (x, d) ∷ mergedFrom z f cs
 unfolding mergedFrom
 add-before x z d f [] p = rw p
-add-before x z d f (c ∷ cs) p = pick (sameX z (c .0)) (add-before x z d (f +ℤ c .1) cs p)
-  where
-    pick : (b : Bool) → add x d (mergedFrom z (f +ℤ c .1) cs) ≡ (x, d) ∷ mergedFrom z (f +ℤ c .1) cs → add x d (cond b (mergedFrom z (f +ℤ c .1) cs) ((z, f) ∷ mergedFrom (c .0) (c .1) cs)) ≡ (x, d) ∷ cond b (mergedFrom z (f +ℤ c .1) cs) ((z, f) ∷ mergedFrom (c .0) (c .1) cs)
-    pick true h = h
-    pick false h = rw p
+add-before x z d f (c ∷ cs) p =
+    either (λ l. add x d l ≡ (x, d) ∷ l) (sameX z (c .0)) (mergedFrom z (f +ℤ c .1) cs) ((z, f) ∷ mergedFrom (c .0) (c .1) cs)
+    (add-before x z d (f +ℤ c .1) cs p) (rw p)
 
 add-level : (x : Float) (d f : ℤ) (cs : List (Float × ℤ)) → add x d (mergedFrom x f cs) ≡ mergedFrom x (d +ℤ f) cs
 unfolding mergedFrom

@@ -146,6 +146,10 @@ row k y nth = record { piece = record { k = k; y = n y; xa = n 2; xb = n 18 }; s
 abbrev one : List Entry
 one = row (pos 0) 2 0 ∷ row (pos 1) 6 1 ∷ []
 
+pub union : rowList ((pt 0 0 ∷ pt 20 0 ∷ pt 20 10 ∷ pt 0 10 ∷ []) ∷ []) NonZero (set 10 (n 2)) false ≡ one
+unfolding add sub mul div neg lt le eq ofInt round toSigned toBits size odd isNan literal negative before smaller larger magnitude wholeOf floor ceil lerp along Rattle.outlines.specs.Winding.edge Rattle.outlines.specs.Winding.edges ring winding inside pointInside sidesTo sides edgeOf keptSide turned edges howMany through ymin ymax kLo kHi rowNumbers rowAt starts lives crossX byX crossed dir crossing sameX mergedFrom merged crossings spans shrink pieceOf minRow wide piecesAt piecesOf overlap linkEnds linkInside connects joined joins rowEntries begun entries met rowList
+union = refl
+
 pub touching : (listed left right NonZero ≡ one) × (listed right left NonZero ≡ one)
 unfolding add sub mul div neg lt le eq ofInt round toSigned toBits size odd isNan literal negative before smaller larger magnitude wholeOf floor ceil lerp along Rattle.outlines.specs.Winding.edge Rattle.outlines.specs.Winding.edges ring winding inside pointInside sidesTo sides edgeOf keptSide turned edges howMany through ymin ymax kLo kHi rowNumbers rowAt starts lives crossX byX crossed dir crossing sameX mergedFrom merged crossings spans shrink pieceOf minRow wide piecesAt piecesOf overlap linkEnds linkInside connects joined joins rowEntries begun entries met rowList
 touching = (refl, refl)

@@ -9,7 +9,7 @@ use lib.Ieee.{Float}
 use Rattle.seqs.specs.Lists.{All, Sorted}
 use Rattle.rules.specs.Fill.{sameX, mergedFrom, merged}
 
-either : (P : List (Float × ℤ) → Type 0) (b : Bool) (l m : List (Float × ℤ)) → P l → P m → P (cond b l m)
+pub either : (P : List (Float × ℤ) → Type 0) (b : Bool) (l m : List (Float × ℤ)) → P l → P m → P (cond b l m)
 either P true l m h k = h
 either P false l m h k = k
 
