@@ -6,6 +6,7 @@ mod common;
 use common::{block, line, settings};
 use zigzag::fill::{FillParams, Piece, row_list, row_list_merged, tatami, ties};
 use zigzag::geom::{FillRule, P, Polyline};
+use zigzag::stroke::{running, running_to_corners};
 
 fn spans(pieces: &[Piece]) -> Vec<(i64, f64, f64)> {
     pieces.iter().map(|p| (p.k, p.xa, p.xb)).collect()
@@ -118,4 +119,17 @@ fn f7_hypot_is_not_the_root_of_the_sum() {
         (1..=60).flat_map(|x| (1..=60).map(move |y| (0.1 * f64::from(x), 0.1 * f64::from(y))));
     let unlike = grid.filter(|&(x, y)| x.hypot(y) != P::new(x, y).len());
     assert!(unlike.count() > 0);
+}
+
+// Request [7] sets the point at the end of a piece to the corner itself.
+#[test]
+fn f13_a_corner_comes_back_a_hair_beside_itself() {
+    let drawn = line(&[(1.0, 0.0), (0.1, 0.0)]);
+    let beside = running(&drawn, false, 25.0, 1);
+    assert_eq!(beside[1].x.to_bits(), 0x3fb9999999999998);
+    assert_eq!(running_to_corners(&drawn, false, 25.0, 1), drawn);
+    // From tenth to tenth of the first ten, 15 ways of 100 end beside themselves.
+    let tenths = || (1..=10).map(|n| f64::from(n) / 10.0);
+    let moved = tenths().flat_map(|a| tenths().map(move |b| (a, b)));
+    assert_eq!(moved.filter(|(a, b)| a + (b - a) != *b).count(), 15);
 }

@@ -203,6 +203,15 @@ fn k7_and_k8_through_the_archive() {
 }
 
 #[test]
+fn f13_a_corner_is_the_corner() {
+    let drawn = [1.0, 0.0, 0.1, 0.0];
+    let (mut out, mut count) = (vec![0.0; 6], 0);
+    let answer = ours::stroke::running(&drawn, false, 25.0, 2, &mut out, &mut count);
+    assert_eq!((answer, count), (expect::DONE, 3));
+    assert_eq!(out, [1.0, 0.0, 0.1, 0.0, 1.0, 0.0]);
+}
+
+#[test]
 fn k9_through_the_archive() {
     // A point and a line more than are needed, which stay as they were.
     let (mut out, mut stops) = (vec![7.0; 10], vec![9; 2]);

@@ -261,7 +261,12 @@ fn patterns_and_running_are_zigzags() {
         let (closed, len, passes) = (s.below(2) == 1, s.number(3, 50), s.below(4) as u32);
         assert_eq!(
             bits(&ours::running(&line, closed, len, passes).unwrap()),
-            their_bits(&stroke::running(&theirs(&line), closed, len, passes))
+            their_bits(&stroke::running_to_corners(
+                &theirs(&line),
+                closed,
+                len,
+                passes
+            ))
         );
     }
 }

@@ -14,7 +14,7 @@ use Rattle.geom.specs.Steps.{steps, along}
 use Rattle.outlines.specs.declared.rule.FillRule.the-variants.{NonZero}
 use Rattle.outlines.specs.Winding.{ring, winding}
 use Rattle.outlines.specs.Inside.{inside, pointInside}
-use Rattle.polyline.specs.Line.{lengthFrom, polylineLength, shortest, pieceSteps, stepsFrom, piece, piecesFrom, pieces, resampleKeepCorners}
+use Rattle.polyline.specs.Line.{lengthFrom, polylineLength, shortest, pieceSteps, stepsFrom, stepEnds, piece, piecesFrom, pieces, resampleKeepCorners}
 use Rattle.stroke.specs.Running.{base, onePass, pass, passesFrom, running}
 use Rattle.rules.specs.declared.Settings.{Settings}
 use Rattle.rules.specs.Fill.{sidesTo, sides, edgeOf, keptSide, turned, edges, howMany, through, ymin, ymax, kLo, kHi, rowNumbers, rowAt, starts, lives, crossX, byX, crossed, dir, crossing, sameX, mergedFrom, merged, crossings, spans, shrink, pieceOf, minRow, wide, piecesAt, piecesOf, overlap, linkEnds, linkInside, connects, joined, joins, rowEntries, begun, entries, met, rowList, section, sections, cycle, remEuclid, offset, minEnd, m0, m1, needles, rowPoints, parts, between, sewFrom, sew, sewn, tatami}
@@ -65,5 +65,5 @@ pub sheet :
     × (pairs rails (n 5) ≡ pair 0 ∷ pair 5 ∷ pair 10 ∷ [])
     × (sStitch (pt 0 0 ∷ pt 6 0 ∷ []) ≡ pt 0 0 ∷ pt 6 0 ∷ [])
     × (running (pt 0 0 ∷ pt 10 0 ∷ []) false (n 5) 2 ≡ pt 0 0 ∷ pt 5 0 ∷ pt 10 0 ∷ pt 5 0 ∷ pt 0 0 ∷ [])
-unfolding add sub mul div neg lt le eq ofInt round toSigned toUnsigned toBits odd size isNan literal negative finite before smaller larger magnitude wholeOf floor ceil isqrt nearRoot rootUnits root len dist norm lerp tiny steps along Rattle.outlines.specs.Winding.edge Rattle.outlines.specs.Winding.edges ring winding inside pointInside lengthFrom polylineLength shortest pieceSteps stepsFrom piece piecesFrom pieces resampleKeepCorners base onePass pass passesFrom running sidesTo sides edgeOf keptSide turned edges howMany through ymin ymax kLo kHi rowNumbers rowAt starts lives crossX byX crossed dir crossing sameX mergedFrom merged crossings spans shrink pieceOf minRow wide piecesAt piecesOf overlap linkEnds linkInside connects joined joins rowEntries begun entries met rowList section sections cycle remEuclid offset minEnd m0 m1 needles rowPoints parts between sewFrom sew sewn tatami bounds upTo firstCell pastCell gridIn gridOf xAt yAt cellInside runs Rattle.patterns_rules.specs.Patterns.joined outOver backOver outAndBack rowRuns rowLines stitched crossStitch lengthsFrom lengths clamp partitionPoint sideEnd fraction onSide at railAt endsOf grows kept centre centresFrom totalOf countOf placeAt inWindow windows places few pairAt pairs sidesFrom Rattle.satinrules.specs.Column.sides bend bends sSide sStitch
+unfolding add sub mul div neg lt le eq ofInt round toSigned toUnsigned toBits odd size isNan literal negative finite before smaller larger magnitude wholeOf floor ceil isqrt nearRoot rootUnits root len dist norm lerp tiny steps along Rattle.outlines.specs.Winding.edge Rattle.outlines.specs.Winding.edges ring winding inside pointInside lengthFrom polylineLength shortest pieceSteps stepsFrom stepEnds piece piecesFrom pieces resampleKeepCorners base onePass pass passesFrom running sidesTo sides edgeOf keptSide turned edges howMany through ymin ymax kLo kHi rowNumbers rowAt starts lives crossX byX crossed dir crossing sameX mergedFrom merged crossings spans shrink pieceOf minRow wide piecesAt piecesOf overlap linkEnds linkInside connects joined joins rowEntries begun entries met rowList section sections cycle remEuclid offset minEnd m0 m1 needles rowPoints parts between sewFrom sew sewn tatami bounds upTo firstCell pastCell gridIn gridOf xAt yAt cellInside runs Rattle.patterns_rules.specs.Patterns.joined outOver backOver outAndBack rowRuns rowLines stitched crossStitch lengthsFrom lengths clamp partitionPoint sideEnd fraction onSide at railAt endsOf grows kept centre centresFrom totalOf countOf placeAt inWindow windows places few pairAt pairs sidesFrom Rattle.satinrules.specs.Column.sides bend bends sSide sStitch
 sheet = (refl, refl, refl, refl, refl, refl, refl, refl, refl, refl, refl, refl)

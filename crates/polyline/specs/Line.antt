@@ -35,8 +35,13 @@ unfoldable pub stepsFrom : P → P → ℕ → ℕ → ℕ → List P
 stepsFrom a b n i zero = []
 stepsFrom a b n i (suc left) = along a b n i ∷ stepsFrom a b n (i + 1) left
 
+-- the ends of all n steps from a to b: the last is the corner b itself
+unfoldable pub stepEnds : P → P → ℕ → List P
+stepEnds a b zero = []
+stepEnds a b (suc n) = stepsFrom a b (suc n) 1 n ++ (b ∷ [])
+
 unfoldable pub piece : P → P → Float → List P
-piece a b len = stepsFrom a b (pieceSteps a b len) 1 (pieceSteps a b len)
+piece a b len = stepEnds a b (pieceSteps a b len)
 
 -- the pieces from p on
 unfoldable pub piecesFrom : P → List P → Float → List P

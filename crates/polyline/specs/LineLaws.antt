@@ -15,7 +15,7 @@ use Rattle.geom.specs.Outline.{points}
 use Rattle.geom.specs.OutlineLaws.{cornerAt, points-next, points-end}
 use Rattle.geom.specs.Sewing.{flat}
 use Rattle.geom.specs.SewingLaws.{flat-length, flat-append}
-use Rattle.polyline.specs.Line.{shortest, lengthFrom, polylineLength, pieceSteps, stepsFrom, piece, piecesFrom, pieces, resampleKeepCorners}
+use Rattle.polyline.specs.Line.{shortest, lengthFrom, polylineLength, pieceSteps, stepsFrom, stepEnds, piece, piecesFrom, pieces, resampleKeepCorners}
 
 points-start : (l : List Float) → 1 < length l → points l ≡ cornerAt l 0 ∷ points (drop 2 l)
 points-start l h = points-next l 0 h
@@ -45,26 +45,37 @@ pub shortest-bits : shortest ≡ ofBits binary64 0x3e112e0be826d695
 unfolding shortest literal round ofBits
 shortest-bits = refl
 
-module _ (a b : P) (n : ℕ) where
-  pub steps-length : (i left : ℕ) → length (stepsFrom a b n i left) ≡ left
+module _ (a b : P) where
+  steps-length : (n i left : ℕ) → length (stepsFrom a b n i left) ≡ left
   unfolding stepsFrom
-  steps-length i zero = refl
-  steps-length i (suc left) = ap suc (steps-length (i + 1) left)
+  steps-length n i zero = refl
+  steps-length n i (suc left) = ap suc (steps-length n (i + 1) left)
 
-  pub steps-size : (i left : ℕ) → length (flat (stepsFrom a b n i left)) ≡ 2 * left
-  steps-size i left = flat-length (stepsFrom a b n i left) ∙ ap (λ (k : ℕ). 2 * k) (steps-length i left)
+  pub steps-size : (n i left : ℕ) → length (flat (stepsFrom a b n i left)) ≡ 2 * left
+  steps-size n i left = flat-length (stepsFrom a b n i left) ∙ ap (λ (k : ℕ). 2 * k) (steps-length n i left)
 
-  pub steps-next : (i : ℕ) → i ≤ n → stepsFrom a b n i (n + 1 - i) ≡ along a b n i ∷ stepsFrom a b n (i + 1) (n + 1 - (i + 1))
+  pub steps-next : (n i : ℕ) → i < n → stepsFrom a b n i (n - i) ≡ along a b n i ∷ stepsFrom a b n (i + 1) (n - (i + 1))
   unfolding stepsFrom
-  steps-next i h = let e : n + 1 - i ≡ suc (n + 1 - (i + 1)) = omega arith in rw e
+  steps-next n i h = let e : n - i ≡ suc (n - (i + 1)) = omega arith in rw e
 
-  pub steps-none : (i : ℕ) → n < i → stepsFrom a b n i (n + 1 - i) ≡ []
+  pub steps-none : (n i : ℕ) → n ≤ i → stepsFrom a b n i (n - i) ≡ []
   unfolding stepsFrom
-  steps-none i h = let e : n + 1 - i ≡ 0 = omega arith in rw e
+  steps-none n i h = let e : n - i ≡ 0 = omega arith in rw e
+
+  -- the steps before the last, and the corner
+  pub ends-last : (n : ℕ) → 0 < n → stepEnds a b n ≡ stepsFrom a b n 1 (n - 1) ++ (b ∷ [])
+  unfolding stepEnds
+  ends-last zero h = absurd (omega arith)
+  ends-last (suc n) h = let e : suc n - 1 ≡ n = omega arith in rw e
+
+  pub ends-length : (n : ℕ) → length (stepEnds a b n) ≡ n
+  unfolding stepEnds
+  ends-length zero = refl
+  ends-length (suc n) = omega (arith, length-append (stepsFrom a b (suc n) 1 n) (b ∷ []), steps-length (suc n) 1 n)
 
 pub piece-length : (a b : P) (len : Float) → length (piece a b len) ≡ pieceSteps a b len
 unfolding piece
-piece-length a b len = steps-length a b (pieceSteps a b len) 1 (pieceSteps a b len)
+piece-length a b len = ends-length a b (pieceSteps a b len)
 
 module _ (l : List Float) (len : Float) where
   pub pieces-start : 1 < length l → pieces (points l) len ≡ piecesFrom (cornerAt l 0) (points (drop 2 l)) len

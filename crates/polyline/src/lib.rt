@@ -1,14 +1,12 @@
 // A line of corners: its length, and the stitches along it that keep every corner.
 ghost use mathlib.Core.Path.{_≡_};
 ghost use Prim.Native.Nat.{_+_, _*_, _^_, _<_, _≤_};
-ghost use lib.IntN.{pos};
 ghost use lib.ListN.{length};
-ghost use Rattle.numbers.specs.Num.{_⊘_, real};
 ghost use Rattle.refusal.specs.Sewn.{sewn, output};
 ghost use Rattle.seqs.specs.Slices.{put, capped};
 ghost use Rattle.geom.specs.Outline.{points};
 ghost use Rattle.geom.specs.Sewing.{flat, fitted};
-ghost use Rattle.polyline.specs.Line.{polylineLength, stepsFrom, pieces, resampleKeepCorners};
+ghost use Rattle.polyline.specs.Line.{polylineLength, stepEnds, pieces, resampleKeepCorners};
 
 pub mod alike;
 pub mod cuts;
@@ -80,36 +78,26 @@ pub fn count_line(line: &[f64], len: f64, room: u64) -> u64
     c
 }
 
-// The first step's part of a piece of one or two.
-fn first_part(n: u64) -> f64
-    requires { ⌜ (0 < n) × (n ≤ 2) ⌝ }
-    ensures { λ r. ⌜ r ≡ real (pos 1) ⊘ real (pos n) ⌝ }
-{
-    if n < 2 {
-        return 1.0;
-    }
-    0.5
-}
-
 // The ends of the n steps from a to b, from k on; answers the place after them.
-pub fn put_steps(out: &mut [f64], k: usize, a: P, b: P, n: u64) -> usize
-    requires { ⌜ k + 2 * n ≤ length (now out) ⌝ }
-    ensures { λ r. ⌜ (now (out .exit) ≡ put (now (out .entry)) k (flat (stepsFrom a b n 1 n))) × (r ≡ k + 2 * n) ⌝ }
+fn put_steps(out: &mut [f64], k: usize, a: P, b: P, n: u64) -> usize
+    requires { ⌜ (0 < n) × (k + 2 * n ≤ length (now out)) ⌝ }
+    ensures { λ r. ⌜ (now (out .exit) ≡ put (now (out .entry)) k (flat (stepEnds a b n))) × (r ≡ k + 2 * n) ⌝ }
 {
     let mut at = k;
     let mut i: u64 = 1;
-    while i <= n {
+    while i < n {
         put_point(out, at, along(a, b, n, i));
         at += 2;
         i += 1;
     }
-    at
+    put_point(out, at, b);
+    at + 2
 }
 
-// The same, with no branch between one step and two: the first end, and the last over it or after it.
-fn put_piece(out: &mut [f64], k: usize, a: P, b: P, n: u64) -> usize
+// The same, with no branch between one step and two: the half-way point, and the corner over it or after it.
+pub fn put_piece(out: &mut [f64], k: usize, a: P, b: P, n: u64) -> usize
     requires { ⌜ k + 2 * n ≤ length (now out) ⌝ }
-    ensures { λ r. ⌜ (now (out .exit) ≡ put (now (out .entry)) k (flat (stepsFrom a b n 1 n))) × (r ≡ k + 2 * n) ⌝ }
+    ensures { λ r. ⌜ (now (out .exit) ≡ put (now (out .entry)) k (flat (stepEnds a b n))) × (r ≡ k + 2 * n) ⌝ }
 {
     if n == 0 {
         return k;
@@ -117,9 +105,9 @@ fn put_piece(out: &mut [f64], k: usize, a: P, b: P, n: u64) -> usize
     if n > 2 {
         return put_steps(out, k, a, b, n);
     }
-    put_point(out, k, a.lerp(b, first_part(n)));
+    put_point(out, k, a.lerp(b, 0.5));
     let last = k + 2 * (n as usize - 1);
-    put_point(out, last, a.lerp(b, 1.0));
+    put_point(out, last, b);
     last + 2
 }
 

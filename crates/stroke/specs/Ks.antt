@@ -12,7 +12,7 @@ use Rattle.numbers.specs.Root.{isqrt, nearRoot, rootUnits, root}
 use Rattle.geom.specs.declared.point.P.{P}
 use Rattle.geom.specs.Point.{point, len, dist, lerp}
 use Rattle.geom.specs.Steps.{steps, along}
-use Rattle.polyline.specs.Line.{shortest, pieceSteps, stepsFrom, piece, piecesFrom, pieces, resampleKeepCorners}
+use Rattle.polyline.specs.Line.{shortest, pieceSteps, stepsFrom, stepEnds, piece, piecesFrom, pieces, resampleKeepCorners}
 use Rattle.stroke.specs.Running.{base, onePass, pass, passesFrom, running}
 
 -- a point on the x axis
@@ -21,5 +21,5 @@ at x = point (real (pos x)) (real (pos 0))
 
 -- K12: (0,0)-(10,0), len 5, 2 passes: x = 0, 5, 10, 5, 0
 pub k12 : running (at 0 ∷ at 10 ∷ []) false (real (pos 5)) 2 ≡ at 0 ∷ at 5 ∷ at 10 ∷ at 5 ∷ at 0 ∷ []
-unfolding running onePass base pass passesFrom resampleKeepCorners pieces piecesFrom piece stepsFrom pieceSteps shortest steps along len dist lerp root rootUnits nearRoot isqrt ceil wholeOf larger before negative literal odd size isNan toUnsigned ofInt round add sub mul div neg lt le eq
+unfolding running onePass base pass passesFrom resampleKeepCorners pieces piecesFrom piece stepEnds stepsFrom pieceSteps shortest steps along len dist lerp root rootUnits nearRoot isqrt ceil wholeOf larger before negative literal odd size isNan toUnsigned ofInt round add sub mul div neg lt le eq
 k12 = refl

@@ -3,4 +3,5 @@ pub mod Running
 pub mod RunningAnswers
 pub mod Closing
 pub mod RunningLaws
+pub mod PassCorners
 pub mod Ks

@@ -12,7 +12,7 @@ use geom::sewing::corner;
 use polyline::count_line;
 use polyline::piece_steps;
 use polyline::put_line;
-use polyline::put_steps;
+use polyline::put_piece;
 
 // How many stitches the closing piece takes.
 fn closing_steps(line: &[f64], closed: bool, len: f64) -> u64
@@ -37,7 +37,7 @@ fn put_closing(out: &mut [f64], k: usize, line: &[f64], closed: bool, len: f64)
         if n > 2 {
             let a = corner(line, 2 * (n - 1));
             let b = corner(line, 0);
-            put_steps(out, k, a, b, piece_steps(a, b, len));
+            put_piece(out, k, a, b, piece_steps(a, b, len));
             return;
         }
     }

@@ -11,7 +11,9 @@ use crate::inputs::{
 use crate::ours::geom as ours;
 use crate::rng::Rng;
 use std::cell::RefCell;
-use zigzag::geom::{self, FillRule, P, polyline_length, resample_keep_corners};
+use zigzag::geom::{
+    self, FillRule, P, polyline_length, resample_keep_corners, resample_to_corners,
+};
 
 const EMPTY_SUM: &str = "empty sum";
 
@@ -504,7 +506,7 @@ fn resample_owed(c: &Cut) -> Written {
         expect::first(&c.checks()),
         || expect::resample_points(&pts, c.len),
         c.room,
-        || resample_keep_corners(&pts, c.len),
+        || resample_to_corners(&pts, c.len),
     )
 }
 

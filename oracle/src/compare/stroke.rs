@@ -59,7 +59,7 @@ fn running_owed(r: &Run) -> Written {
         expect::first(&[layout, number, setting, passed]),
         || expect::running_points(&pts, closed, len, passes),
         r.cut.room,
-        || stroke::running(&pts, closed, len, passes as u32),
+        || stroke::running_to_corners(&pts, closed, len, passes as u32),
     )
 }
 

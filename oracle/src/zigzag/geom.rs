@@ -210,3 +210,24 @@ pub fn resample_keep_corners(pts: &[P], len: f64) -> Polyline {
     }
     out
 }
+
+// added (request [7]): the same, with the point at the end of each piece that
+// isn't skipped set to the drawn corner itself.
+pub fn resample_to_corners(pts: &[P], len: f64) -> Polyline {
+    let mut out = Vec::with_capacity(pts.len() * 2);
+    if let Some(&first) = pts.first() {
+        out.push(first);
+    }
+    for w in pts.windows(2) {
+        let d = w[0].dist(w[1]);
+        if d < 1e-9 {
+            continue;
+        }
+        let n = (d / len).ceil().max(1.0) as usize;
+        for i in 1..n {
+            out.push(w[0].lerp(w[1], i as f64 / n as f64));
+        }
+        out.push(w[1]);
+    }
+    out
+}

@@ -10,8 +10,8 @@ use borrow.Author.Needs.{needs}
 use Rattle.stroke.proofs.one.put_closing.Statement.{statement}
 use Rattle.stroke.proofs.one.put_closing.Tie as tie
 
-put-steps-requires : tie.Need-put-steps-requires
-put-steps-requires c κs =
+put-piece-requires : tie.Need-put-piece-requires
+put-piece-requires c κs =
     let a = c .before .before .before .before .before .before .before .before .args in
     let n = rw (c .before .before .before .corner .ensures, c .before .before .corner2 .ensures) at (c .piece-steps .ensures) in
     let e = ap length (closing-on (a .line .now) (a .closed) (a .len) (c .before .before .before .before .before .if1 .taken) (search needs)) ∙ piece-length _ _ (a .len) in
@@ -22,7 +22,7 @@ unfolding piece
 returns c =
     let a = c .before .before .before .before .before .before .before .before .before .before .before .args in
     let e = closing-on (a .line .now) (a .closed) (a .len) (c .before .before .before .before .before .before .before .before .if1 .taken) (search needs) in
-    rw (e, ← c .before .before .before .before .before .before .corner .ensures, ← c .before .before .before .before .before .corner2 .ensures, ← c .before .before .before .piece-steps .ensures) (c .before .before .put-steps .ensures .0)
+    rw (e, ← c .before .before .before .before .before .before .corner .ensures, ← c .before .before .before .before .before .corner2 .ensures, ← c .before .before .before .piece-steps .ensures) (c .before .before .put-piece .ensures .0)
 
 returns-2 : tie.Need-returns-2
 returns-2 c =
@@ -36,4 +36,4 @@ returns-3 c =
 
 pub put-closing-spec : {M : Type 1} → statement M
 put-closing-spec =
-    tie.close (tie.spec (λ c. search needs) (λ c. search needs) (λ c κs. search needs) (λ c κs. search needs) (λ c κs. search needs) put-steps-requires (λ c. search needs) returns returns-2 returns-3)
+    tie.close (tie.spec (λ c. search needs) (λ c. search needs) (λ c κs. search needs) (λ c κs. search needs) (λ c κs. search needs) put-piece-requires (λ c. search needs) returns returns-2 returns-3)
