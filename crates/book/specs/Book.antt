@@ -105,13 +105,13 @@ bytes (suc k) v = bytes k (v / 256) ++ v % 256 ∷ []
 
 -- the length of what follows, the version, and the number
 unfoldable pub headBytes : ℕ → List ℕ
-headBytes n = bytes 2 39 ++ bytes 1 1 ++ bytes 2 n
+headBytes n = (bytes 2 39 ++ bytes 1 1) ++ bytes 2 n
 
 unfoldable pub bits : Float → List ℕ
 bits x = bytes 8 (toBits binary64 x)
 
 unfoldable pub valueBytes : Values → List ℕ
-valueBytes v = bits (v .spacing) ++ bits (v .len) ++ bits (v .inset) ++ bits (v .pull) ++ bytes 4 (v .stagger)
+valueBytes v = (((bits (v .spacing) ++ bits (v .len)) ++ bits (v .inset)) ++ bits (v .pull)) ++ bytes 4 (v .stagger)
 
 unfoldable pub sheetBytes : ℕ → Values → List ℕ
 sheetBytes n v = headBytes n ++ valueBytes v

@@ -40,10 +40,10 @@ module _ (s : List ℕ) where
     | inl a ↦ elim (either (leb 3 (number 0 2 s))) [
       | inl b ↦ elim (either (leb (2 + number 0 2 s) (length s))) [
         | inl d ↦
-          let x = leb-true 3 (number 0 2 s) b in
-          let y = leb-true (2 + number 0 2 s) (length s) d in
-          let e = size-whole (leb-true 2 (length s) a) x y in
-          (omega (arith, e, x), omega (arith, e, y))
+            let x = leb-true 3 (number 0 2 s) b in
+            let y = leb-true (2 + number 0 2 s) (length s) d in
+            let e = size-whole (leb-true 2 (length s) a) x y in
+            (omega (arith, e, x), omega (arith, e, y))
         | inr d ↦ absurd (omega (arith, size-past (leb-true 2 (length s) a) (leb-true 3 (number 0 2 s) b) (leb-false (2 + number 0 2 s) (length s) d)))
       ]
       | inr b ↦ absurd (omega (arith, size-small (leb-true 2 (length s) a) (leb-false 3 (number 0 2 s) b)))
@@ -113,8 +113,8 @@ sheets-same (suc k) zero s h l = rw (size-short s (omega arith))
 sheets-same (suc k) (suc m) s h l = elim (either (eqb (size s) 0)) [
   | inl e ↦ rw e
   | inr e ↦
-    let p = size-fits s (pos-of-ne-zero (eqb-false _ _ e)) in
-    rw e (ap (λ r. take (size s) s ∷ r) (sheets-same k m (drop (size s) s) (omega (arith, p .0, length-drop (size s) s)) (omega (arith, p .0, length-drop (size s) s))))
+      let p = size-fits s (pos-of-ne-zero (eqb-false _ _ e)) in
+      rw e (ap (λ r. take (size s) s ∷ r) (sheets-same k m (drop (size s) s) (omega (arith, p .0, length-drop (size s) s)) (omega (arith, p .0, length-drop (size s) s))))
 ]
 
 module _ (s : List ℕ) where
@@ -213,7 +213,7 @@ module _ (n : ℕ) (s : List ℕ) (at : ℕ) (p : Placed n s at) where
   unfolding stands
   placed-none e = rw (p .way .is, sheets-end (drop at s) e) (stands-behind n (p .way .passed) [] (p .way .other))
 
-  here-is : 0 < size (drop at s) → eqb (numberOf (take (size (drop at s)) (drop at s))) n ≡ true
+  pub here-is : 0 < size (drop at s) → eqb (numberOf (take (size (drop at s)) (drop at s))) n ≡ true
   here-is h = elim (p .here) [
     | inl e ↦ absurd (omega (arith, e))
     | inr e ↦ eq-eqb _ n (number-of (drop at s) (size (drop at s)) (size-fits (drop at s) h .0) ∙ e)
@@ -244,7 +244,7 @@ module _ (s : List ℕ) (at k : ℕ) (e : k ≡ size (drop at s)) (p : 0 < k) wh
   pub size-five : 5 ≤ k
   size-five = omega (arith, e, size-fits (drop at s) (omega (arith, e, p)) .0)
 
-  sheets-on : sheets (drop at s) ≡ take k (drop at s) ∷ sheets (drop (at + k) s)
+  pub sheets-on : sheets (drop at s) ≡ take k (drop at s) ∷ sheets (drop (at + k) s)
   sheets-on = rw (e, sheets-next (drop at s) (omega (arith, e, p)), drop-drop (size (drop at s)) at s)
 
   good-step : goodBook (drop at s) ≡ (goodSheet (take k (drop at s)) && (not (stands (numberOf (drop at s)) (sheets (drop (at + k) s))) && goodSheets (sheets (drop (at + k) s)))) && ended (drop (length (joined (sheets (drop (at + k) s)))) (drop (at + k) s))

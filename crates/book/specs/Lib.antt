@@ -2,3 +2,4 @@
 pub mod Book
 pub mod BookLaws
 pub mod FetchLaws
+pub mod KeepLaws

@@ -2,11 +2,11 @@
 ghost use mathlib.Core.Path.{_≡_};
 ghost use Prim.Native.Nat.{_+_, _≤_};
 ghost use lib.ListN.{length, drop};
-ghost use Rattle.book.specs.Book.{size};
+ghost use Rattle.book.specs.Book.{size, sheets, joined};
 ghost use Rattle.book.specs.BookLaws.{Placed};
 use jobs::number::number_at;
 
-fn wide(n: u16) -> u64
+pub fn wide(n: u16) -> u64
     ensures { λ r. ⌜ r ≡ n ⌝ }
 {
     n as u64
@@ -41,6 +41,19 @@ pub fn place(s: &[u8], number: u16) -> usize
         if number_at(s, at + 3, 2) == sought {
             return at;
         }
+        at += n;
+        n = size_at(s, at);
+    }
+    at
+}
+
+// Where the last sheet ends.
+pub fn book_end(s: &[u8]) -> usize
+    ensures { λ r. ⌜ (r ≡ length (joined (sheets (now (s .entry))))) × (r ≤ length (now (s .entry))) ⌝ }
+{
+    let mut at = 0;
+    let mut n = size_at(s, 0);
+    while n > 0 {
         at += n;
         n = size_at(s, at);
     }
