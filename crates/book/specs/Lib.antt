@@ -1,5 +1,6 @@
--- The machines' sheet book: its bytes, and what each call answers and leaves.
+-- The machines' sheet book: its bytes, what each call answers and leaves, and what is proved of it.
 pub mod Book
 pub mod BookLaws
 pub mod FetchLaws
 pub mod KeepLaws
+pub mod Examples
