@@ -4,13 +4,12 @@ use native.Mathlib.Omega.{arith}
 use mathlib.Core.Path.{_≡_, sym, ap, _∙_}
 use mathlib.Core.Bool.{true, false}
 use mathlib.Core.List.{List}
-use lib.ListN.{length, take, drop, getD, length-drop}
+use lib.ListN.{length, drop, getD, length-drop}
 use lib.Seq.{length-take-le}
 use borrow.Author.Tests.{eq-eqb, ne-eqb}
 use Rattle.refusal.specs.Refusal.{LAYOUT, SETTING}
-use Rattle.book.specs.declared.values.Values.{Values}
 use Rattle.book.specs.declared.fetching.Fetched.the-variants.{Sheet, Refused}
-use Rattle.book.specs.Book.{ABSENT, VERSION, versionOf, valuesOf, goodValues, size, sheets, stands, sheetOf, goodBook, sheetRefusal, fetchRefusal, fetched}
+use Rattle.book.specs.Book.{ABSENT, VERSION, versionOf, valuesOf, goodValues, size, sheets, sheetOf, goodBook, sheetRefusal, fetchRefusal, fetched}
 use Rattle.book.specs.BookLaws.{Placed, placed-none, placed-stands, placed-sheet, size-fits, version-of, version-at, values-of, good-sheet, good-length}
 
 module _ (n : ℕ) (s : List ℕ) where

@@ -6,13 +6,13 @@ use mathlib.Core.Path.{_≡_, refl, sym, ap, _∙_}
 use mathlib.Core.Bool.{true, false}
 use mathlib.Core.Logic.{inl, inr}
 use mathlib.Core.List.{List, [], _∷_, _++_, append-assoc, append-nil}
-use lib.Dec.{leb, eqb}
+use lib.Dec.{eqb}
 use lib.ListN.{length, take, drop, getD, replicate, length-append, length-drop}
 use lib.Ieee.{Float}
-use lib.Seq.{drop-drop, take-add, take-at, take-append-add, length-take-le}
+use lib.Seq.{take-add, take-at, take-append-add, length-take-le}
 use borrow.Author.Tests.{le-leb, lt-leb, eq-eqb, ne-eqb, eqb-true, eqb-false}
 use Rattle.refusal.specs.Refusal.{DONE, LAYOUT, SETTING, ROOM}
-use Rattle.seqs.specs.Slices.{put, Put}
+use Rattle.seqs.specs.Slices.{Put}
 use Rattle.seqs.specs.Put.{put-length}
 use Rattle.seqs.specs.Reads.{drop-take}
 use Rattle.seqs.specs.Tests.{either, clash}

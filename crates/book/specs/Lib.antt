@@ -3,4 +3,5 @@ pub mod Book
 pub mod BookLaws
 pub mod FetchLaws
 pub mod KeepLaws
+pub mod Back
 pub mod Examples

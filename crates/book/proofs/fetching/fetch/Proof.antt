@@ -1,9 +1,7 @@
-use mathlib.Core.Path.{sym, ap, _∙_}
+use mathlib.Core.Path.{sym, _∙_}
 use native.Mathlib.Nat.{pos-of-ne-zero}
 use native.Mathlib.Omega.{arith}
-use lib.ListN.{drop}
 use Rattle.seqs.specs.Tests.{passed, failed}
-use Rattle.book.specs.declared.fetching.Fetched.the-variants.{Sheet}
 use Rattle.book.specs.BookLaws.{size-five}
 use Rattle.book.specs.FetchLaws.{fetched-layout, fetched-absent, fetched-later, sheet-long, fetched-setting, fetched-done}
 use borrow.Author.Needs.{needs}

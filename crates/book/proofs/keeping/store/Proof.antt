@@ -1,9 +1,9 @@
-use mathlib.Core.Path.{_≡_, sym, _∙_}
+use mathlib.Core.Path.{sym, _∙_}
 use native.Mathlib.Nat.{pos-of-ne-zero}
 use native.Mathlib.Omega.{arith}
 use Rattle.seqs.specs.Tests.{passed, failed}
 use Rattle.book.specs.BookLaws.{size-five}
-use Rattle.book.specs.KeepLaws.{store-layout, store-setting, store-room, store-new, new-left, store-later, store-over, stored-left, end-below, whole-size}
+use Rattle.book.specs.KeepLaws.{store-layout, store-setting, store-room, store-new, new-left, store-later, store-over, stored-left, whole-size}
 use borrow.Author.Needs.{needs}
 use Rattle.book.proofs.keeping.store.Statement.{statement}
 use Rattle.book.proofs.keeping.store.Tie as tie

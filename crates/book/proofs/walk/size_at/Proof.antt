@@ -1,8 +1,6 @@
-use mathlib.Core.Path.{_≡_, sym, _∙_}
-use Prim.Native.Nat.{_+_}
+use mathlib.Core.Path.{sym, _∙_}
 use native.Mathlib.Omega.{arith}
 use lib.ListN.{drop, length-drop}
-use Rattle.jobs.specs.Job.{number}
 use Rattle.book.specs.BookLaws.{size-short, size-small, size-past, size-whole, number-here}
 use borrow.Author.Needs.{needs}
 use Rattle.book.proofs.walk.size_at.Statement.{statement}

@@ -1,9 +1,9 @@
 -- The invariant: what is read is still as it was, and stands behind what was kept.
-use mathlib.Core.Path.{_≡_, sym, ap, _∙_}
+use mathlib.Core.Path.{_≡_, sym, _∙_}
 use mathlib.Core.List.{_++_}
 use Prim.Native.Nat.{_+_, _-_, _≤_}
 use native.Mathlib.Omega.{arith}
-use lib.ListN.{length, take, drop}
+use lib.ListN.{take, drop}
 use Rattle.seqs.specs.Move.{Move, move-start, move-at, move-read, move-keep, move-end}
 use Rattle.seqs.specs.Reads.{part-next, part-none}
 use borrow.Author.Needs.{needs}
