@@ -73,7 +73,7 @@ sheets-back (t ∷ ts) z w e =
 
 pub filled-back : (m : ℕ) (ts : List (List ℕ)) → AllWhole ts → sheets (filled m (joined ts)) ≡ ts
 unfolding filled
-filled-back m ts w = sheets-back ts _ w (size-zeros _)
+filled-back m ts w = sheets-back ts (replicate (m - length (joined ts)) 0) w (size-zeros (m - length (joined ts)))
 
 -- ---- every sheet of a book is whole
 
