@@ -4,4 +4,5 @@ pub mod BookLaws
 pub mod FetchLaws
 pub mod KeepLaws
 pub mod Back
+pub mod Stored
 pub mod Examples
