@@ -3,7 +3,7 @@ mod frame;
 pub mod job;
 mod line;
 mod lines;
-mod number;
+pub mod number;
 mod rings;
 
 pub use job::Job;
