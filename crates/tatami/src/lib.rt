@@ -5,8 +5,8 @@
 ghost use mathlib.Core.Path.{_≡_};
 ghost use Rattle.tatami.specs.Left.{left, leftList, tatamiLeft, rowListLeft};
 
-mod list;
-mod sew;
+pub mod list;
+pub mod sew;
 
 use crate::list::listing;
 use crate::sew::sewing;

@@ -72,7 +72,7 @@ fn has_room(n: usize, ys: &[f64], rows: &[i64], sections: &[usize]) -> bool
 }
 
 // The part behind the edges, listed.
-fn list_pieces(
+pub fn list_pieces(
     corners: &[f64],
     ends: &[usize],
     t: Plan,

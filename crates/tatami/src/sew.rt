@@ -105,7 +105,7 @@ fn sew(
 }
 
 // The part behind the edges, sewn.
-fn sew_pieces(
+pub fn sew_pieces(
     corners: &[f64],
     ends: &[usize],
     t: Plan,
