@@ -1,0 +1,6 @@
+-- The definitions (Apart).
+pub mod Apart
+pub mod Errors
+pub mod Values
+pub mod Gaps
+pub mod Laws
