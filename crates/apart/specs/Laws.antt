@@ -1,9 +1,10 @@
 -- The arithmetic of whole numbers behind a step that is cut: no float here. Assumes nothing.
-use Prim.Native.Nat.{ℕ, suc, _+_, _*_, _^_, _≤_, _<_}
-use mathlib.Core.Path.{_≡_}
-use native.Mathlib.Nat.{mul-pos, mul-le-mul, mul-le-mul-left, mul-le-mul-right, le-of-mul-le-mul-right, lt-of-not-le}
+use Prim.Native.Nat.{ℕ, suc, _+_, _-_, _*_, _^_, _≤_, _<_}
+use mathlib.Core.Path.{_≡_, sym, ap}
+use native.Mathlib.Nat.{mul-pos, mul-le-mul, mul-le-mul-left, mul-le-mul-right, le-of-mul-le-mul-right, lt-of-not-le, le-trans, le-of-eq, one-mul, mul-add, mul-left-comm}
 use native.Mathlib.Decide.{decLe}
 use native.Mathlib.Omega.{arith}
+use lib.Dec.{lit≤, lit<}
 
 -- ---- the exact distance, from the worked one: each rounding errs by a factor of k / h, and by a unit, of which l are one
 
@@ -32,6 +33,65 @@ root-of : (h k w l z X Y S y M : ℕ) → 0 < k → k * k * k * k * (X * X + Y *
 root-of h k w l z X Y S y M K p q r s =
     let u : S * l + 3 * l + 2 * w ≤ (y + z) * (y + z) = omega arith in
     le-of-mul-le-mul-right {k = k * k * k * k} (omega (arith, mul-le-mul-left (h * h * h * h) u, mul-le-mul s s)) (mul-pos (mul-pos (mul-pos K K) K) K)
+
+over-part : (r y W : ℕ) → 2 ^ 60 ≤ W → 2 ^ 28 * r ≤ (2 ^ 28 + 1) * W → (2 ^ 30 - 1) * ((2 ^ 27 + 1) * W) ≤ 2 ^ 30 * ((y + 1) * 2 ^ 27) → r < y
+over-part r y W b h g = omega arith
+
+under-part : (y W : ℕ) → 2 ^ 60 ≤ W → 2 ^ 30 * (y * 2 ^ 27) ≤ (2 ^ 30 + 1) * ((2 ^ 27 + 1) * W) + 2 ^ 30 * 2 ^ 27 → 2 ^ 26 * (y + 2 ^ 34) ≤ (2 ^ 26 + 2) * W
+under-part y W b g = last (first g)
+  where
+    first : 2 ^ 30 * (y * 2 ^ 27) ≤ (2 ^ 30 + 1) * ((2 ^ 27 + 1) * W) + 2 ^ 30 * 2 ^ 27 → 2 ^ 26 * y ≤ (2 ^ 26 + 1) * W
+    first k = omega arith
+
+    last : 2 ^ 26 * y ≤ (2 ^ 26 + 1) * W → 2 ^ 26 * (y + 2 ^ 34) ≤ (2 ^ 26 + 2) * W
+    last k = trim y W b k
+      where
+        trim : (y W : ℕ) → 2 ^ 60 ≤ W → 2 ^ 26 * y ≤ (2 ^ 26 + 1) * W → 2 ^ 26 * (y + 2 ^ 34) ≤ (2 ^ 26 + 2) * W
+        trim y W b k = omega arith
+
+with-part : (W G y : ℕ) → W ≤ 2 ^ 24 * G → 2 ^ 26 * y ≤ (2 ^ 26 + 2) * W → 2 ^ 30 * 2 ^ 30 * y ≤ (2 ^ 30 - 1) * (2 ^ 30 - 1) * (W + G)
+with-part W G y h g = let a : 2 ^ 60 * y ≤ (2 ^ 60 + 2 ^ 35) * W = omega arith in le-trans a (last W G h)
+  where
+    last : (W G : ℕ) → W ≤ 2 ^ 24 * G → (2 ^ 60 + 2 ^ 35) * W ≤ (2 ^ 30 - 1) * (2 ^ 30 - 1) * (W + G)
+    last W G h = omega arith
+
+-- the bound's own numbers: the worked distance r, its quotient q by the length L, at most N parts, and a y a little above N·L
+module _ (l N L r q y e : ℕ) (big : 2 ^ 60 ≤ e) (ell : l ≡ 2 ^ 14 * e) (some : 1 ≤ N) (least : l ≤ L) (most : L ≤ 2 ^ 10 * l) where
+  abbrev W : ℕ
+  W = N * L
+
+  worked : (2 ^ 30 - 1) * (r * l) ≤ 2 ^ 30 * ((q + 1) * (L + 1)) → q ≤ N * l → 2 ^ 28 * r ≤ (2 ^ 28 + 1) * W
+  worked h k =
+      let a : (q + 1) * (L + 1) ≤ (N * L + N + 2 ^ 11) * l = omega (arith, mul-le-mul-right (L + 1) k, mul-le-mul-right l some) in
+      let b : (2 ^ 30 - 1) * r ≤ 2 ^ 30 * (N * L + N + 2 ^ 11) = le-of-mul-le-mul-right {k = l} (omega arith) (omega arith) in
+      let c : N * 2 ^ 60 ≤ N * L = mul-le-mul-left N (omega arith) in
+      omega arith
+
+  pub above : (2 ^ 30 - 1) * (r * l) ≤ 2 ^ 30 * ((q + 1) * (L + 1)) → q ≤ N * l → (2 ^ 30 - 1) * ((2 ^ 27 + 1) * W) ≤ 2 ^ 30 * ((y + 1) * 2 ^ 27) → r < y
+  above h k g =
+      let a = worked h k in
+      let b : 2 ^ 60 ≤ L = omega arith in
+      over-part r y W (le-trans (le-of-eq (sym (one-mul (2 ^ 60)))) (mul-le-mul some b)) a g
+
+  pub below : 2 ^ 30 * (y * 2 ^ 27) ≤ (2 ^ 30 + 1) * ((2 ^ 27 + 1) * W) + 2 ^ 30 * 2 ^ 27 → 2 ^ 30 * 2 ^ 30 * (y + 2 ^ 34) ≤ (2 ^ 30 - 1) * (2 ^ 30 - 1) * (N * (L + e))
+  below g =
+      let b : 2 ^ 60 ≤ L = omega arith in
+      let d : L ≤ 2 ^ 24 * e = omega arith in
+      let f : N * L ≤ 2 ^ 24 * (N * e) = le-trans (mul-le-mul-left N d) (le-of-eq (mul-left-comm N (2 ^ 24) e)) in
+      le-trans (with-part (N * L) (N * e) (y + 2 ^ 34) f (under-part y (N * L) (le-trans (le-of-eq (sym (one-mul (2 ^ 60)))) (mul-le-mul some b)) g)) (le-of-eq (ap (λ (z : ℕ). (2 ^ 30 - 1) * (2 ^ 30 - 1) * z) (sym (mul-add N L e))))
+
+-- all of it: A, B the squares' units, S the sum's, y above the root of S; with h, k = 2 ^ 30, 2 ^ 30 - 1
+pub distance : (l X Y a b A B S y M : ℕ) → 1 ≤ l → (2 ^ 30 - 1) * X ≤ 2 ^ 30 * (a + 1) → (2 ^ 30 - 1) * Y ≤ 2 ^ 30 * (b + 1) → a ≤ 2 ^ 31 * l → b ≤ 2 ^ 31 * l
+    → (2 ^ 30 - 1) * (a * a) ≤ 2 ^ 30 * ((A + 1) * l) → (2 ^ 30 - 1) * (b * b) ≤ 2 ^ 30 * ((B + 1) * l) → (2 ^ 30 - 1) * (A + B) ≤ 2 ^ 30 * (S + 1)
+    → S * l ≤ y * y → l ≤ y → 2 ^ 30 * 2 ^ 30 * (y + 2 ^ 34) ≤ (2 ^ 30 - 1) * (2 ^ 30 - 1) * M → X * X + Y * Y ≤ M * M
+distance l X Y a b A B S y M i x y′ a′ b′ aa bb s r ly m =
+    let h = 2 ^ 30 in
+    let k = 2 ^ 30 - 1 in
+    let w = 2 ^ 33 * l in
+    let k≤h : k ≤ h = lit≤ tt in
+    root-of h k w l (2 ^ 34) X Y S y M (lit< tt)
+    (sum-of h k w l X Y A B S k≤h (square-of h k w l X a A k≤h x (omega arith) aa) (square-of h k w l Y b B k≤h y′ (omega arith) bb) s)
+    r (omega arith) m
 
 -- ---- a way cut in n: where step i ends, of p to q, and how far the next is
 

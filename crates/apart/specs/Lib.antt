@@ -4,3 +4,4 @@ pub mod Errors
 pub mod Values
 pub mod Gaps
 pub mod Laws
+pub mod Distances

@@ -78,6 +78,9 @@ rounded-size false a p n c m h k e = omega arith
 pub within-rounded : {v : Float} {p n c : ℕ} (m : ℕ) → m ≤ 1000 → 0 < c → Rounded v p n c → p ≤ 2 ^ m * c → n ≤ 2 ^ m * c → Within m v
 within-rounded {v} {p} {n} {c} m l C r h k = rw (r .is) (within-round m (r .sign) (r .size) c l C (rounded-size (r .sign) (r .size) p n c m h k (r .value)))
 
+pub rounded-close : {v : Float} {p n c : ℕ} (m : ℕ) → m ≤ 1000 → 0 < c → (r : Rounded v p n c) → p ≤ 2 ^ m * c → n ≤ 2 ^ m * c → Close (2 ^ 1074) (unitsOf v) (r .size) c
+rounded-close {v} {p} {n} {c} m l C r h k = rw (r .is) (round-close (r .size) c m C l (rounded-size (r .sign) (r .size) p n c m h k (r .value)) (r .sign))
+
 signed : (t s : Bool) (l u a p n c E : ℕ) → t ≡ s → over s a + n ≡ p + under s a → (u * c ≤ a * l + c * E) × (a * l ≤ u * c + c * E) → (over t u * c + n * l ≤ p * l + under t u * c + c * E) × (p * l + under t u * c ≤ over t u * c + n * l + c * E)
 signed t true l u a p n c E x y h = rw x (omega (arith, ap (λ (z : ℕ). z * l) y, h .0, h .1), omega (arith, ap (λ (z : ℕ). z * l) y, h .0, h .1))
 signed t false l u a p n c E x y h = rw x (omega (arith, ap (λ (z : ℕ). z * l) y, h .0, h .1), omega (arith, ap (λ (z : ℕ). z * l) y, h .0, h .1))
@@ -104,11 +107,11 @@ about {v} {p} {n} {c} {e} C k = record {
   least = le-of-mul-le-mul-right {k = c} (omega (arith, k .least)) C;
 }
 
-twice : (n p d q c : ℕ) → p ≤ 2 ^ n * d → q ≤ 2 ^ n * c → p * c + q * d ≤ 2 ^ suc n * (d * c)
+pub twice : (n p d q c : ℕ) → p ≤ 2 ^ n * d → q ≤ 2 ^ n * c → p * c + q * d ≤ 2 ^ suc n * (d * c)
 twice n p d q c h k = let t : 2 ^ suc n ≡ 2 * 2 ^ n = omega arith in rw t (omega (arith, mul-le-mul-right c h, mul-le-mul-right d k))
 
 -- x / d + y / c in units
-joined : (l x X d y Y c : ℕ) → x * l ≡ X * d → y * l ≡ Y * c → (x * c + y * d) * l ≡ (X + Y) * (d * c)
+pub joined : (l x X d y Y c : ℕ) → x * l ≡ X * d → y * l ≡ Y * c → (x * c + y * d) * l ≡ (X + Y) * (d * c)
 joined l x X d y Y c e f = omega (arith, ap (λ (z : ℕ). z * c) e, ap (λ (z : ℕ). z * d) f)
 
 module _ (m E : ℕ) (x y : Float) (f : T (fits binary64 x)) (g : T (fits binary64 y)) (l : suc m ≤ 1000) (h : Within m x) (k : Within m y) (small : 2 ^ suc m * 2 ^ 1074 + 2 ^ 52 ≤ 2 ^ 52 * E) where
