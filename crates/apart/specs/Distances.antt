@@ -3,7 +3,7 @@ use mathlib.Core.Path.{_≡_, refl, sym, ap, _∙_, subst}
 use mathlib.Core.Bool.{Bool, true, false, not}
 use mathlib.Core.Logic.{inl, inr}
 use Prim.Native.Nat.{ℕ, zero, suc, _+_, _-_, _*_, _/_, _^_, _≤_, _<_, zero-le}
-use native.Mathlib.Nat.{zero-mul, mul-one, one-mul, mul-assoc, mul-pos, mul-le-mul, mul-le-mul-left, mul-le-mul-right, le-of-mul-le-mul-right, eq-of-mul-eq-mul-right, le-trans, le-of-eq, le-of-lt, div-add-mod', mod-lt, le-div-iff-mul-le}
+use native.Mathlib.Nat.{zero-mul, mul-one, one-mul, mul-assoc, mul-pos, mul-le-mul, mul-le-mul-left, mul-le-mul-right, le-of-mul-le-mul-right, eq-of-mul-eq-mul-right, le-trans, le-of-eq, le-of-lt, lt-of-lt-of-le, div-add-mod', mod-lt, le-div-iff-mul-le}
 use native.Mathlib.Omega.{arith}
 use lib.Dec.{T, lit≤, lit<}
 use lib.Pow.{pow-pos, pow-add}
@@ -22,10 +22,12 @@ use Rattle.numbers.specs.Rounded.{Rounded, add-rounded, sub-rounded}
 use Rattle.numbers.specs.Monotone.{at-least-zero, div-rounded}
 use Rattle.numbers.specs.Bounds.{within-finite, within-round}
 use Rattle.numbers.specs.Roots.{above-is, nothing-below}
-use Rattle.numbers.specs.Laws.{ceil-is}
+use Rattle.numbers.specs.Laws.{ceil-is, atleast-above, within-sub, within-mul, within-add, within-more, within-root, within-div, square-up, sum-up, div-up, root-fits, root-up, sub-fits, add-fits, mul-fits, div-fits}
+use Rattle.geom.specs.declared.point.P.{P}
+use Rattle.geom.specs.Point.{len, dist}
 use Rattle.apart.specs.Apart.{gap}
 use Rattle.apart.specs.Errors.{Close, round-close}
-use Rattle.apart.specs.Values.{hi, lo, hi-exact, lo-exact, parts, twice, joined, rounded-close}
+use Rattle.apart.specs.Values.{hi, lo, hi-exact, lo-exact, parts, twice, joined, rounded-close, units-most}
 use Rattle.apart.specs.Gaps.{Differ, gap-is}
 use Rattle.apart.specs.Laws.{distance, above, below}
 
@@ -129,3 +131,169 @@ rooted (fin s zero e) y f p h g k l = le-trans (le-of-eq (nought (unitsOf (fin s
 rooted (fin true (suc m) e) y f p h g k l = absurd (nothing-below m e p)
 rooted (fin false (suc m) e) y f p h g k l = nearer-square (unitsOf (fin false (suc m) e) * 2 ^ 1074) (unitsOf (root (fin false (suc m) e))) (unitsOf y) l (above-is m e f .nearest y g k)
 
+
+-- ---- the length asked for, which need not fit: its units are its value, but for less than one
+module _ (l a d : ℕ) (D : 0 < d) where
+  part-up : a * l ≤ (a * l / d + 1) * d
+  part-up = omega (arith, div-add-mod' (a * l) d, mod-lt (a * l) D)
+
+  part-least : d ≤ a → l ≤ a * l / d
+  part-least h = le-div-iff-mul-le D .1 (omega (arith, mul-le-mul-right l h))
+
+  part-most : (M : ℕ) → a ≤ M * d → a * l / d ≤ M * l
+  part-most M h = le-of-mul-le-mul-right {k = d} (omega (arith, mul-le-mul-right l h, div-add-mod' (a * l) d)) D
+
+pub record Length (x : Float) : Type 0 where
+  pub fine : T (finite x)
+  pub reaches : AtLeast 0 x
+  pub above : T (lt zero64 x)
+  pub one : den x ≤ plus x
+  pub exact : plus x * 2 ^ 1074 ≤ (unitsOf x + 1) * den x
+  pub least : 2 ^ 1074 ≤ unitsOf x
+  pub most : unitsOf x ≤ 2 ^ 10 * 2 ^ 1074
+
+pub length-is : (x : Float) → AtLeast 0 x → Within 10 x → Length x
+unfolding AtLeast Within unitsOf finite
+length-is nan h k = absurd h
+length-is (inf s) h k = absurd h
+length-is (fin true m e) h k = absurd h
+length-is (fin false m e) h k =
+    let one : down e ≤ m * up e = le-trans h (le-of-eq (mul-one (m * up e))) in
+    record {
+      fine = tt;
+      reaches = h;
+      above = atleast-above 0 (fin false m e) h;
+      one = one;
+      exact = part-up (2 ^ 1074) (m * up e) (down e) (down-pos e);
+      least = part-least (2 ^ 1074) (m * up e) (down e) (down-pos e) one;
+      most = part-most (2 ^ 1074) (m * up e) (down e) (down-pos e) (2 ^ 10) k;
+    }
+
+-- ---- the quotient by it
+cut-quotient : (l v r L p d n c : ℕ) → 0 < d → 0 < c → p * l ≡ r * d → n * l ≤ (L + 1) * c → 2 ^ 52 * (p * c * l) ≤ 2 ^ 52 * (v * (n * d)) + p * c * l + 2 ^ 52 * (n * d) → 2 ^ 52 * (r * l) ≤ 2 ^ 52 * (v * (L + 1)) + r * l + 2 ^ 52 * (L + 1)
+cut-quotient l v r L p d n c D C e f h =
+    let a : 2 ^ 52 * (r * c) ≤ 2 ^ 52 * (v * n) + r * c + 2 ^ 52 * n = le-of-mul-le-mul-right {k = d} (omega (arith, ap (λ (z : ℕ). z * c) e)) D in
+    le-of-mul-le-mul-right {k = c} (omega (arith, mul-le-mul-right l a, mul-le-mul-left (v + 1) f)) C
+
+pub quotient : (x y : Float) → T (fits binary64 x) → Within 40 x → T (le zero64 x) → Length y → (2 ^ 30 - 1) * (unitsOf x * 2 ^ 1074) ≤ 2 ^ 30 * ((unitsOf (x ⊘ y) + 1) * (unitsOf y + 1))
+quotient x y f h p k =
+    let fx = within-finite 40 x h in
+    let z = at-least-zero x fx p in
+    let C : 0 < plus y * den x = mul-pos (lt-of-lt-of-le (den-pos y) (k .one)) (den-pos x) in
+    let r = div-rounded x y fx (k .fine) (k .above) in
+    let a = parts 40 x h in
+    let w = rounded-close 40 (lit≤ tt) C r (wide (2 ^ 40) (plus x) (den x) (den y) (plus y) (a .0) (k .one)) (wide (2 ^ 40) (less x) (den x) (den y) (plus y) (a .1) (k .one)) in
+    let i = up-size (r .sign) (r .size) (plus x * den y) (less x * den y) (r .value) (ap (λ (n : ℕ). n * den y) z ∙ zero-mul (den y)) in
+    weaker-by (unitsOf (x ⊘ y)) (unitsOf x * 2 ^ 1074) (unitsOf y + 1)
+    (cut-quotient (2 ^ 1074) (unitsOf (x ⊘ y)) (unitsOf x) (unitsOf y) (plus x) (den x) (plus y) (den y) (den-pos x) (den-pos y) (up-exact x f fx z) (k .exact)
+    (subst (λ (n : ℕ). 2 ^ 52 * (n * 2 ^ 1074) ≤ 2 ^ 52 * (unitsOf (x ⊘ y) * (plus y * den x)) + n * 2 ^ 1074 + 2 ^ 52 * (plus y * den x)) i (w .least)))
+  where
+    wide : (M p d c n : ℕ) → p ≤ M * d → c ≤ n → p * c ≤ M * (n * d)
+    wide M p d c n a b = le-trans (mul-le-mul a b) (le-of-eq (turned M d n))
+      where
+        turned : (M d n : ℕ) → M * d * n ≡ M * (n * d)
+        turned M d n = omega arith
+
+-- ---- its ceiling, as a count
+up-value : (x : Float) → T (fits binary64 x) → T (finite x) → less x ≡ 0 → valueOf x ≡ pos (unitsOf x)
+unfolding finite valueOf negative
+up-value nan f g z = absurd g
+up-value (inf s) f g z = absurd g
+up-value (fin false m e) f g z = refl
+up-value (fin true m e) f g z = opposite (unitsOf (fin true m e)) (eq-of-mul-eq-mul-right (down e) (down-pos e) (unitsOf (fin true m e)) 0 (sym (no-units (2 ^ 1074) (m * up e) (down e) (unitsOf (fin true m e)) (units-exact true m e f) z) ∙ zero-mul (2 ^ 1074) ∙ sym (zero-mul (down e))))
+  where
+    opposite : (u : ℕ) → u ≡ 0 → negℤ (pos u) ≡ pos u
+    opposite u z = rw z
+
+pub counted : (x : Float) (n : ℕ) → T (fits binary64 x) → T (finite x) → T (le zero64 x) → IsWhole 40 (ceil x) (pos n) → unitsOf x ≤ n * 2 ^ 1074
+counted x n f g p w =
+    let c = ceil-is x f g in
+    let e : pos (n * 2 ^ 1074) ≡ pos (unitsOf x + c .rest) = sym (w .exact) ∙ c .is ∙ ap (λ (k : ℤ). k +ℤ pos (c .rest)) (up-value x f g (at-least-zero x g p)) in
+    go (unitsOf x) (c .rest) (n * 2 ^ 1074) (ap natAbs e)
+  where
+    go : (u r m : ℕ) → m ≡ u + r → u ≤ m
+    go u r m e = omega arith
+
+-- ---- a value a little above W
+module _ (l y W : ℕ) (L : 0 < l) (k : Close l y ((2 ^ 27 + 1) * W) (2 ^ 27 * l)) where
+  bound-most : 2 ^ 30 * (y * 2 ^ 27) ≤ (2 ^ 30 + 1) * ((2 ^ 27 + 1) * W) + 2 ^ 30 * 2 ^ 27
+  bound-most = go y ((2 ^ 27 + 1) * W) (le-of-mul-le-mul-right {k = l} (omega (arith, k .most)) L)
+    where
+      go : (y a : ℕ) → 2 ^ 52 * (y * 2 ^ 27) ≤ 2 ^ 52 * a + a + 2 ^ 52 * 2 ^ 27 → 2 ^ 30 * (y * 2 ^ 27) ≤ (2 ^ 30 + 1) * a + 2 ^ 30 * 2 ^ 27
+      go y a h = omega arith
+
+  bound-least : (2 ^ 30 - 1) * ((2 ^ 27 + 1) * W) ≤ 2 ^ 30 * ((y + 1) * 2 ^ 27)
+  bound-least = weaker-by y ((2 ^ 27 + 1) * W) (2 ^ 27) (le-of-mul-le-mul-right {k = l} (omega (arith, k .least)) L)
+
+bound-over : (l y W : ℕ) → 2 ^ 60 ≤ l → l ≤ W → (2 ^ 30 - 1) * ((2 ^ 27 + 1) * W) ≤ 2 ^ 30 * ((y + 1) * 2 ^ 27) → l ≤ y
+bound-over l y W a b h = omega arith
+
+some-times : (l N L : ℕ) → 1 ≤ N → l ≤ L → l ≤ N * L
+some-times l N L h k = le-trans (le-of-eq (sym (one-mul l))) (mul-le-mul h k)
+
+-- ---- the distance of p and q, from the number of parts of their way
+-- two points' coordinates
+pub record Point (p : P) : Type 0 where
+  pub fit-x : T (fits binary64 (p .x))
+  pub fit-y : T (fits binary64 (p .y))
+  pub small-x : Within 30 (p .x)
+  pub small-y : Within 30 (p .y)
+
+module _ (p q : P) (hp : Point p) (hq : Point q) (size : Float) (k : Length size) (n N : ℕ) (w : IsWhole 40 (ceil (dist p q ⊘ size)) (pos n)) (some : 1 ≤ N) (few : N ≤ 2 ^ 40) (most : n ≤ N) where
+  -- a little above N lengths
+  abbrev bound : Float
+  bound = round binary64 false ((2 ^ 27 + 1) * (N * unitsOf size)) (2 ^ 27 * 2 ^ 1074)
+
+  bound-small : (2 ^ 27 + 1) * (N * unitsOf size) ≤ 2 ^ 60 * (2 ^ 27 * 2 ^ 1074)
+  bound-small = go (2 ^ 1074) (unitsOf size) (k .most)
+    where
+      go : (l L : ℕ) → L ≤ 2 ^ 10 * l → (2 ^ 27 + 1) * (N * L) ≤ 2 ^ 60 * (2 ^ 27 * l)
+      go l L h = let a : N * L ≤ 2 ^ 40 * (2 ^ 10 * l) = mul-le-mul few h in omega arith
+
+  bound-fits : T (fits binary64 bound)
+  bound-fits = round-fits binary64 false ((2 ^ 27 + 1) * (N * unitsOf size)) (2 ^ 27 * 2 ^ 1074)
+
+  bound-fine : T (finite bound)
+  bound-fine = within-finite 60 bound (within-round 60 false ((2 ^ 27 + 1) * (N * unitsOf size)) (2 ^ 27 * 2 ^ 1074) (lit≤ tt) (mul-pos (pow-pos 27) (pow-pos 1074)) bound-small)
+
+  pub apart : gap (p .x) (q .x) * gap (p .x) (q .x) + gap (p .y) (q .y) * gap (p .y) (q .y) ≤ N * (unitsOf size + 2 ^ 1060) * (N * (unitsOf size + 2 ^ 1060))
+  unfolding dist len
+  apart =
+      let dx = p .x ⊖ q .x in
+      let dy = p .y ⊖ q .y in
+      let wx = within-sub 30 (p .x) (q .x) (lit≤ tt) (hp .small-x) (hq .small-x) in
+      let wy = within-sub 30 (p .y) (q .y) (lit≤ tt) (hp .small-y) (hq .small-y) in
+      let fx = sub-fits binary64 (p .x) (q .x) in
+      let fy = sub-fits binary64 (p .y) (q .y) in
+      let wxx = within-mul 31 31 dx dx (lit≤ tt) wx wx in
+      let wyy = within-mul 31 31 dy dy (lit≤ tt) wy wy in
+      let s = dx ⊗ dx ⊕ dy ⊗ dy in
+      let ux = square-up dx (within-finite 31 dx wx) in
+      let uy = square-up dy (within-finite 31 dy wy) in
+      let us = sum-up (dx ⊗ dx) (dy ⊗ dy) ux uy in
+      let fs = add-fits binary64 (dx ⊗ dx) (dy ⊗ dy) in
+      let ws = within-add 62 (dx ⊗ dx) (dy ⊗ dy) (lit≤ tt) wxx wyy in
+      let wr = within-root 40 s (lit≤ tt) fs us (within-more 63 80 s (lit≤ tt) ws) in
+      let fr = root-fits s fs in
+      let ur = root-up s fs us in
+      let t = root s ⊘ size in
+      let ft = div-fits binary64 (root s) size in
+      let wt = within-finite 40 t (within-div 40 0 (root s) size (lit≤ tt) wr (k .reaches)) in
+      let ut = div-up (root s) size (within-finite 40 (root s) wr) (k .fine) ur (k .above) in
+      let L = unitsOf size in
+      let y = unitsOf bound in
+      let l = 2 ^ 1074 in
+      let e = 2 ^ 1060 in
+      let c = round-close ((2 ^ 27 + 1) * (N * L)) (2 ^ 27 * l) 60 (mul-pos (pow-pos 27) (pow-pos 1074)) (lit≤ tt) bound-small false in
+      let c-most = bound-most l y (N * L) (pow-pos 1074) c in
+      let c-least = bound-least l y (N * L) (pow-pos 1074) c in
+      let quo = quotient (root s) size fr wr ur k in
+      let count = le-trans (counted t n ft wt ut w) (mul-le-mul-right l most) in
+      let lower = above l N L (unitsOf (root s)) (unitsOf t) y e (lit≤ tt) refl some (k .least) (k .most) quo count c-least in
+      distance l (gap (p .x) (q .x)) (gap (p .y) (q .y)) (unitsOf dx) (unitsOf dy) (unitsOf (dx ⊗ dx)) (unitsOf (dy ⊗ dy)) (unitsOf s) y (N * (L + e)) (lit≤ tt)
+      (difference (p .x) (q .x) (hp .fit-x) (hq .fit-x) (hp .small-x) (hq .small-x)) (difference (p .y) (q .y) (hp .fit-y) (hq .fit-y) (hp .small-y) (hq .small-y))
+      (units-most 31 dx fx wx) (units-most 31 dy fy wy) (square dx fx wx) (square dy fy wy)
+      (sum (dx ⊗ dx) (dy ⊗ dy) (mul-fits binary64 dx dx) (mul-fits binary64 dy dy) wxx wyy ux uy)
+      (rooted s bound fs us (within-finite 63 s ws) bound-fits bound-fine lower)
+      (bound-over l y (N * L) (lit≤ tt) (some-times l N L some (k .least)) c-least)
+      (below l N L (unitsOf (root s)) (unitsOf t) y e (lit≤ tt) refl some (k .least) (k .most) c-most)
