@@ -102,28 +102,27 @@ pub record At (ph pl qh ql n i e sh sl : ℕ) : Type 0 where
 
 -- the difference D, the fraction t of l, and their product m, each but for an error
 module _ (n i l E F Dh Dl t mh ml : ℕ) (L : 0 < l) (small : (Dh + Dl) * F ≤ l * E) (u : t * n ≤ i * l + n * F) (v : i * l ≤ t * n + n * F) where
-  part-most : mh * l + Dl * t ≤ Dh * t + ml * l + l * E → n * mh + Dl * i ≤ Dh * i + n * ml + 2 * n * E
+  pub part-most : mh * l + Dl * t ≤ Dh * t + ml * l + l * E → n * mh + Dl * i ≤ Dh * i + n * ml + 2 * n * E
   part-most m = le-of-mul-le-mul-right {k = l} (omega (arith, mul-le-mul-left Dh u, mul-le-mul-left Dl v, mul-le-mul-left n m, mul-le-mul-left n small)) L
 
-  part-least : Dh * t + ml * l ≤ mh * l + Dl * t + l * E → Dh * i + n * ml ≤ n * mh + Dl * i + 2 * n * E
+  pub part-least : Dh * t + ml * l ≤ mh * l + Dl * t + l * E → Dh * i + n * ml ≤ n * mh + Dl * i + 2 * n * E
   part-least m = le-of-mul-le-mul-right {k = l} (omega (arith, mul-le-mul-left Dl u, mul-le-mul-left Dh v, mul-le-mul-left n m, mul-le-mul-left n small)) L
 
 -- and their sum s with p
 module _ (ph pl qh ql n i E Dh Dl mh ml sh sl : ℕ) (few : i ≤ n) where
-  sum-most : Dh + (ql + ph) ≤ qh + pl + Dl + E → n * mh + Dl * i ≤ Dh * i + n * ml + 2 * n * E → sh + (pl + ml) ≤ ph + mh + sl + E → n * sh + n * pl + i * ql + i * ph ≤ n * ph + i * qh + i * pl + n * sl + n * (4 * E)
+  pub sum-most : Dh + (ql + ph) ≤ qh + pl + Dl + E → n * mh + Dl * i ≤ Dh * i + n * ml + 2 * n * E → sh + (pl + ml) ≤ ph + mh + sl + E → n * sh + n * pl + i * ql + i * ph ≤ n * ph + i * qh + i * pl + n * sl + n * (4 * E)
   sum-most d m s = omega (arith, mul-le-mul-left i d, mul-le-mul-left n s, mul-le-mul-right E few)
 
-  sum-least : qh + pl + Dl ≤ Dh + (ql + ph) + E → Dh * i + n * ml ≤ n * mh + Dl * i + 2 * n * E → ph + mh + sl ≤ sh + (pl + ml) + E → n * ph + i * qh + i * pl + n * sl ≤ n * sh + n * pl + i * ql + i * ph + n * (4 * E)
+  pub sum-least : qh + pl + Dl ≤ Dh + (ql + ph) + E → Dh * i + n * ml ≤ n * mh + Dl * i + 2 * n * E → ph + mh + sl ≤ sh + (pl + ml) + E → n * ph + i * qh + i * pl + n * sl ≤ n * sh + n * pl + i * ql + i * ph + n * (4 * E)
   sum-least d m s = omega (arith, mul-le-mul-left i d, mul-le-mul-left n s, mul-le-mul-right E few)
 
 -- from one step's end to the next
-pub next-at : (ph pl qh ql n i e X sh sl th tl : ℕ) → At ph pl qh ql n i e sh sl → At ph pl qh ql n (i + 1) e th tl → qh + pl ≤ ql + ph + X → ql + ph ≤ qh + pl + X
-    → n * (th + sl) ≤ n * (tl + sh) + X + 2 * n * e
-next-at ph pl qh ql n i e X sh sl th tl a b p q = omega (arith, a .least, b .most)
+module _ (ph pl qh ql n i e X sh sl th tl : ℕ) (a : At ph pl qh ql n i e sh sl) (b : At ph pl qh ql n (i + 1) e th tl) (p : qh + pl ≤ ql + ph + X) (q : ql + ph ≤ qh + pl + X) where
+  pub next-at : n * (th + sl) ≤ n * (tl + sh) + X + n * (2 * e)
+  next-at = omega (arith, a .least, b .most)
 
-pub prev-at : (ph pl qh ql n i e X sh sl th tl : ℕ) → At ph pl qh ql n i e sh sl → At ph pl qh ql n (i + 1) e th tl → qh + pl ≤ ql + ph + X → ql + ph ≤ qh + pl + X
-    → n * (tl + sh) ≤ n * (th + sl) + X + 2 * n * e
-prev-at ph pl qh ql n i e X sh sl th tl a b p q = omega (arith, a .most, b .least)
+  pub prev-at : n * (tl + sh) ≤ n * (th + sl) + X + n * (2 * e)
+  prev-at = omega (arith, a .most, b .least)
 
 -- ---- the distance of two steps' ends
 -- with x ≤ X / n + f and y ≤ Y / n + f, where X² + Y² ≤ (n·M)²
@@ -139,3 +138,9 @@ ends n X Y M f x y N h a b =
     let i = side X Y (n * M) h in
     let j = side Y X (n * M) (omega arith) in
     le-of-mul-le-mul-right {k = n * n} (omega (arith, mul-le-mul a a, mul-le-mul b b, mul-le-mul-right (n * f) i, mul-le-mul-right (n * f) j)) (mul-pos N N)
+
+-- in thousandths, with the margin of one of them
+pub thousandths : (l L d x y : ℕ) → 1000 * d ≤ l → x * x + y * y ≤ (L + d) * (L + d) → 1000 * x * (1000 * x) + 1000 * y * (1000 * y) ≤ (1000 * L + l) * (1000 * L + l)
+thousandths l L d x y h k =
+    let a : 1000 * (L + d) ≤ 1000 * L + l = omega arith in
+    le-trans (omega (arith, mul-le-mul-left 1000000 k)) (mul-le-mul a a)

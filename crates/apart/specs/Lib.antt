@@ -5,3 +5,4 @@ pub mod Values
 pub mod Gaps
 pub mod Laws
 pub mod Distances
+pub mod Ways
