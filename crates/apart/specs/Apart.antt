@@ -18,17 +18,14 @@ use Rattle.rules.specs.Fill.{rowList, sections, rowPoints, sew}
 unfoldable pub gap : Float → Float → ℕ
 gap x y = natAbs (valueOf x -ℤ valueOf y)
 
--- 0.001 is one part of a thousand: lengths are counted in thousandths of the unit, and 2 ^ 1074 units are one
-unfoldable pub thousand : ℕ → ℕ
-thousand n = 1000 * n
+abbrev pub square : ℕ → ℕ
+square n = n * n
 
--- dx² + dy² ≤ (len + 0.001)²
-unfoldable pub within : ℕ → ℕ → ℕ → Bool
-within dx dy len = leb (thousand dx * thousand dx + thousand dy * thousand dy) ((thousand len + 2 ^ 1074) * (thousand len + 2 ^ 1074))
-
--- p and q are finite, and lie no farther apart than len + 0.001
+-- p and q are finite, and lie no farther apart than len + 0.001: dx² + dy² ≤ (len + 0.001)², in units, of which 2 ^ 1074 are one; all a thousand times, so that 0.001 is whole too
 unfoldable pub noFarther : Float → P → P → Bool
-noFarther len p q = finite (p .x) && finite (p .y) && finite (q .x) && finite (q .y) && within (gap (p .x) (q .x)) (gap (p .y) (q .y)) (unitsOf len)
+noFarther len p q =
+    finite (p .x) && finite (p .y) && finite (q .x) && finite (q .y)
+    && leb (square (1000 * gap (p .x) (q .x)) + square (1000 * gap (p .y) (q .y))) (square (1000 * unitsOf len + 2 ^ 1074))
 
 -- the test holds of every two neighbours of a list
 unfoldable pub neighbours : (P → P → Bool) → List P → Bool

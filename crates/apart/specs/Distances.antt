@@ -131,7 +131,6 @@ rooted (fin s zero e) y f p h g k l = le-trans (le-of-eq (nought (unitsOf (fin s
 rooted (fin true (suc m) e) y f p h g k l = absurd (nothing-below m e p)
 rooted (fin false (suc m) e) y f p h g k l = nearer-square (unitsOf (fin false (suc m) e) * 2 ^ 1074) (unitsOf (root (fin false (suc m) e))) (unitsOf y) l (above-is m e f .nearest y g k)
 
-
 -- ---- the length asked for, which need not fit: its units are its value, but for less than one
 module _ (l a d : ℕ) (D : 0 < d) where
   part-up : a * l ≤ (a * l / d + 1) * d

@@ -139,8 +139,8 @@ ends n X Y M f x y N h a b =
     let j = side Y X (n * M) (omega arith) in
     le-of-mul-le-mul-right {k = n * n} (omega (arith, mul-le-mul a a, mul-le-mul b b, mul-le-mul-right (n * f) i, mul-le-mul-right (n * f) j)) (mul-pos N N)
 
--- in thousandths, with the margin of one of them
-pub thousandths : (l L d x y : ℕ) → 1000 * d ≤ l → x * x + y * y ≤ (L + d) * (L + d) → 1000 * x * (1000 * x) + 1000 * y * (1000 * y) ≤ (1000 * L + l) * (1000 * L + l)
-thousandths l L d x y h k =
-    let a : 1000 * (L + d) ≤ 1000 * L + l = omega arith in
-    le-trans (omega (arith, mul-le-mul-left 1000000 k)) (mul-le-mul a a)
+-- in thousandths, with a margin of one of them
+pub thousandths : (l L a b x y : ℕ) → 1000 * (a + b) ≤ l → x * x + y * y ≤ (L + a + b) * (L + a + b) → 1000 * x * (1000 * x) + 1000 * y * (1000 * y) ≤ (1000 * L + l) * (1000 * L + l)
+thousandths l L a b x y h k =
+    let m : 1000 * (L + a + b) ≤ 1000 * L + l = omega arith in
+    le-trans (omega (arith, mul-le-mul-left 1000000 k)) (mul-le-mul m m)

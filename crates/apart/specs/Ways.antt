@@ -26,7 +26,7 @@ use Rattle.seqs.specs.Lists.{upto}
 use Rattle.geom.specs.declared.point.P.{P}
 use Rattle.geom.specs.Point.{lerp, dist}
 use Rattle.geom.specs.Steps.{along}
-use Rattle.apart.specs.Apart.{gap, thousand, within, noFarther, neighbours}
+use Rattle.apart.specs.Apart.{gap, noFarther, neighbours}
 use Rattle.apart.specs.Values.{hi, lo, lo-exact, whole, units-most, Near, About, within-rounded, rounded-near, add-about, sub-about, mul-about}
 use Rattle.apart.specs.Gaps.{Differ, gap-is}
 use Rattle.apart.specs.Distances.{Length, Point, apart}
@@ -141,3 +141,103 @@ module _ (a b : Float) (fa : T (fits binary64 a)) (fb : T (fits binary64 b)) (wa
             sum-least (hi a) (lo a) (hi b) (lo b) n i (2 ^ 1055) (hi D) (lo D) (hi m) (lo m) (hi (a ⊕ m)) (lo (a ⊕ m)) few (d .least)
             (part-least n i (2 ^ 1074) (2 ^ 1055) (2 ^ 1023) (hi D) (lo D) (hi t) (hi m) (lo m) (pow-pos 1074) spread (k .most) (k .least) (p .least)) (s .least);
       }
+
+-- ---- from one step's end to the next
+-- p and q are X apart, and the two ends d
+gap-at : (ph pl qh ql n i e X sh sl th tl d : ℕ) → At ph pl qh ql n i e sh sl → At ph pl qh ql n (i + 1) e th tl → Differ (ph + ql) (pl + qh) X → Differ (sh + tl) (sl + th) d → n * d ≤ X + n * (2 * e)
+gap-at ph pl qh ql n i e X sh sl th tl d a b u v = go (low u) (high u) v
+  where
+    low : Differ (ph + ql) (pl + qh) X → qh + pl ≤ ql + ph + X
+    low (inl w) = omega arith
+    low (inr w) = omega arith
+
+    high : Differ (ph + ql) (pl + qh) X → ql + ph ≤ qh + pl + X
+    high (inl w) = omega arith
+    high (inr w) = omega arith
+
+    go : qh + pl ≤ ql + ph + X → ql + ph ≤ qh + pl + X → Differ (sh + tl) (sl + th) d → n * d ≤ X + n * (2 * e)
+    go x y (inl w) = omega (arith, prev-at ph pl qh ql n i e X sh sl th tl a b x y, ap (λ (k : ℕ). n * k) w)
+    go x y (inr w) = omega (arith, next-at ph pl qh ql n i e X sh sl th tl a b x y, ap (λ (k : ℕ). n * k) w)
+
+-- s is where step i of n ends, on the way from p to q
+record On (p q : P) (n i : ℕ) (s : P) : Type 0 where
+  fine-x : T (finite (s .x))
+  fine-y : T (finite (s .y))
+  at-x : At (hi (p .x)) (lo (p .x)) (hi (q .x)) (lo (q .x)) n i (4 * 2 ^ 1055) (hi (s .x)) (lo (s .x))
+  at-y : At (hi (p .y)) (lo (p .y)) (hi (q .y)) (lo (q .y)) n i (4 * 2 ^ 1055) (hi (s .y)) (lo (s .y))
+
+at-start : (ph pl qh ql n e : ℕ) → At ph pl qh ql n 0 e ph pl
+at-start ph pl qh ql n e = record { most = omega arith; least = omega arith }
+
+at-end : (ph pl qh ql n e : ℕ) → At ph pl qh ql n n e qh ql
+at-end ph pl qh ql n e = record { most = omega arith; least = omega arith }
+
+module _ (p q : P) (hp : Point p) (hq : Point q) (size : Float) (k : Length size) (n N : ℕ) (w : IsWhole 40 (ceil (dist p q ⊘ size)) (pos n)) (some : 1 ≤ N) (few : N ≤ 2 ^ 40) (most : n ≤ N) where
+  on-start : On p q N 0 p
+  on-start = record {
+    fine-x = within-finite 30 (p .x) (hp .small-x);
+    fine-y = within-finite 30 (p .y) (hp .small-y);
+    at-x = at-start (hi (p .x)) (lo (p .x)) (hi (q .x)) (lo (q .x)) N (4 * 2 ^ 1055);
+    at-y = at-start (hi (p .y)) (lo (p .y)) (hi (q .y)) (lo (q .y)) N (4 * 2 ^ 1055);
+  }
+
+  on-end : On p q N N q
+  on-end = record {
+    fine-x = within-finite 30 (q .x) (hq .small-x);
+    fine-y = within-finite 30 (q .y) (hq .small-y);
+    at-x = at-end (hi (p .x)) (lo (p .x)) (hi (q .x)) (lo (q .x)) N (4 * 2 ^ 1055);
+    at-y = at-end (hi (p .y)) (lo (p .y)) (hi (q .y)) (lo (q .y)) N (4 * 2 ^ 1055);
+  }
+
+  on-way : (i : ℕ) → i ≤ N → On p q N i (along p q N i)
+  unfolding along lerp
+  on-way i h =
+      let t = real (pos i) ⊘ real (pos N) in
+      let f = fraction N i some h few in
+      record {
+        fine-x = within-finite 32 _ (end-within (p .x) (q .x) (hp .fit-x) (hq .fit-x) (hp .small-x) (hq .small-x) N i h t f);
+        fine-y = within-finite 32 _ (end-within (p .y) (q .y) (hp .fit-y) (hq .fit-y) (hp .small-y) (hq .small-y) N i h t f);
+        at-x = end-at (p .x) (q .x) (hp .fit-x) (hq .fit-x) (hp .small-x) (hq .small-x) N i h t f;
+        at-y = end-at (p .y) (q .y) (hp .fit-y) (hq .fit-y) (hp .small-y) (hq .small-y) N i h t f;
+      }
+
+  step : (i : ℕ) (s t : P) → On p q N i s → On p q N (i + 1) t → noFarther size s t ≡ true
+  unfolding noFarther
+  step i s t a b =
+      let x = gap-at _ _ _ _ N i (4 * 2 ^ 1055) (gap (p .x) (q .x)) _ _ _ _ (gap (s .x) (t .x)) (a .at-x) (b .at-x) (gap-is (p .x) (q .x)) (gap-is (s .x) (t .x)) in
+      let y = gap-at _ _ _ _ N i (4 * 2 ^ 1055) (gap (p .y) (q .y)) _ _ _ _ (gap (s .y) (t .y)) (a .at-y) (b .at-y) (gap-is (p .y) (q .y)) (gap-is (s .y) (t .y)) in
+      let far = ends N (gap (p .x) (q .x)) (gap (p .y) (q .y)) (unitsOf size + 2 ^ 1060) (2 * (4 * 2 ^ 1055)) (gap (s .x) (t .x)) (gap (s .y) (t .y)) some (apart p q hp hq size k n N w some few most) x y in
+      let near = thousandths (2 ^ 1074) (unitsOf size) (2 ^ 1060) (2 * (2 * (4 * 2 ^ 1055))) (gap (s .x) (t .x)) (gap (s .y) (t .y)) (lit≤ tt) far in
+      rw (is-true (finite (s .x)) (a .fine-x), is-true (finite (s .y)) (a .fine-y), is-true (finite (t .x)) (b .fine-x), is-true (finite (t .y)) (b .fine-y)) (is-true _ (le→leb _ _ near))
+
+  -- the ends of the steps that are left, and what is sewn from q on
+  chain : (rest : List P) → neighbours (noFarther size) (q ∷ rest) ≡ true → (j i : ℕ) (s : P) → On p q N i s → i + j + 1 ≡ N → neighbours (noFarther size) (s ∷ (map (along p q N) (upto (i + 1) j) ++ (q ∷ rest))) ≡ true
+  unfolding neighbours
+  chain rest h zero i s a e = rw (step i s q a (subst (λ (m : ℕ). On p q N m q) (sym (last i e)) on-end)) h
+    where
+      last : (i : ℕ) → i + 0 + 1 ≡ N → i + 1 ≡ N
+      last i e = omega arith
+  chain rest h (suc j) i s a e =
+      let b = on-way (i + 1) (room i j e) in
+      rw (step i s (along p q N (i + 1)) a b) (chain rest h j (i + 1) (along p q N (i + 1)) b (more i j e))
+    where
+      room : (i j : ℕ) → i + suc j + 1 ≡ N → i + 1 ≤ N
+      room i j e = omega arith
+
+      more : (i j : ℕ) → i + suc j + 1 ≡ N → i + 1 + j + 1 ≡ N
+      more i j e = omega arith
+
+-- ---- from p to q, and on
+pub way : (p q : P) → Point p → Point q → (size : Float) → Length size → (n : ℕ) → IsWhole 40 (ceil (dist p q ⊘ size)) (pos n) → (rest : List P) → neighbours (noFarther size) (q ∷ rest) ≡ true
+    → neighbours (noFarther size) (p ∷ (map (along p q n) (upto 1 (n - 1)) ++ (q ∷ rest))) ≡ true
+way p q hp hq size k zero w rest h = chain p q hp hq size k 0 1 w (lit≤ tt) (lit≤ tt) (lit≤ tt) rest h 0 0 p (on-start p q hp hq size k 0 1 w (lit≤ tt) (lit≤ tt) (lit≤ tt)) refl
+way p q hp hq size k (suc m) w rest h =
+    let one : 1 ≤ suc m = omega arith in
+    let same : suc m ≤ suc m = omega arith in
+    rw (less-one m) (chain p q hp hq size k (suc m) (suc m) w one (w .small) same rest h m 0 p (on-start p q hp hq size k (suc m) (suc m) w one (w .small) same) (count m))
+  where
+    less-one : (m : ℕ) → suc m - 1 ≡ m
+    less-one m = omega arith
+
+    count : (m : ℕ) → 0 + m + 1 ≡ suc m
+    count m = omega arith
