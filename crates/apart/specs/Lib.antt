@@ -6,3 +6,4 @@ pub mod Gaps
 pub mod Laws
 pub mod Distances
 pub mod Ways
+pub mod Sizes
