@@ -146,6 +146,7 @@ pub record Length (x : Float) : Type 0 where
   pub fine : T (finite x)
   pub reaches : AtLeast 0 x
   pub above : T (lt zero64 x)
+  pub up : less x ≡ 0
   pub one : den x ≤ plus x
   pub exact : plus x * 2 ^ 1074 ≤ (unitsOf x + 1) * den x
   pub least : 2 ^ 1074 ≤ unitsOf x
@@ -162,6 +163,7 @@ length-is (fin false m e) h k =
       fine = tt;
       reaches = h;
       above = atleast-above 0 (fin false m e) h;
+      up = refl;
       one = one;
       exact = part-up (2 ^ 1074) (m * up e) (down e) (down-pos e);
       least = part-least (2 ^ 1074) (m * up e) (down e) (down-pos e) one;

@@ -7,3 +7,4 @@ pub mod Laws
 pub mod Distances
 pub mod Ways
 pub mod Sizes
+pub mod Theorems

@@ -107,3 +107,175 @@ module _ (outline : List (List P)) (g : Settings) (cyc : ℕ) (ok : Checked outl
       all-sift (λ e. Fine (e .piece)) (λ e. eqb (e .section) s) (rowList outline rule g bottomUp)
       (all-unmapped (λ e. Fine (e .piece)) Fine (λ e. e .piece) (λ e w. w) (rowList outline rule g bottomUp)
       (rw (pieces-of-rows outline rule g bottomUp) (all-parts Fair Fine (piecesOf rule g (edges g outline)) (row-fine rule) (met bottomUp (rowNumbers g (edges g outline))) (met-fair outline g cyc ok bottomUp))))
+
+-- ---- whole numbers of lengths
+abs-value : (x : Float) → natAbs (valueOf x) ≡ unitsOf x
+unfolding valueOf
+abs-value x = go (negative x) (unitsOf x)
+  where
+    go : (s : Bool) (u : ℕ) → natAbs (cond s (negℤ (pos u)) (pos u)) ≡ u
+    go true u = abs-opposite u
+    go false u = refl
+
+abs-times : (k : ℤ) (l : ℕ) → natAbs (k *ℤ pos l) ≡ natAbs k * l
+abs-times (pos a) l = refl
+abs-times (negsuc a) l = abs-opposite (suc a * l)
+
+-- what is less than one away from x
+ceil-size : (x : Float) (k : ℤ) → T (fits binary64 x) → T (finite x) → IsWhole 25 (ceil x) k → natAbs k * 2 ^ 1074 ≤ unitsOf x + 2 ^ 1074
+ceil-size x k f g w =
+    let c = ceil-is x f g in
+    let e = ap natAbs (sym (w .exact) ∙ c .is) in
+    go (natAbs k * 2 ^ 1074) (natAbs (k *ℤ pos (2 ^ 1074))) (natAbs (valueOf x)) (unitsOf x) (c .rest) (2 ^ 1074) (natAbs (valueOf x +ℤ pos (c .rest))) (abs-times k (2 ^ 1074)) e (natAbs-add (valueOf x) (pos (c .rest))) (abs-value x) (c .under-one)
+  where
+    go : (a b v u r l s : ℕ) → b ≡ a → b ≡ s → s ≤ v + r → v ≡ u → r < l → a ≤ u + l
+    go a b v u r l s p q h e i = omega arith
+
+floor-size : (x : Float) (k : ℤ) → T (fits binary64 x) → T (finite x) → IsWhole 25 (floor x) k → natAbs k * 2 ^ 1074 ≤ unitsOf x + 2 ^ 1074
+floor-size x k f g w =
+    let c = floor-is x f g in
+    let r = c .rest in
+    let e : k *ℤ pos (2 ^ 1074) ≡ valueOf x +ℤ negℤ (pos r) = sym (w .exact) ∙ sym (+ℤ-negℤ-cancel (valueOf (floor x)) (pos r)) ∙ ap (λ (z : ℤ). z +ℤ negℤ (pos r)) (sym (c .is)) in
+    go (natAbs k * 2 ^ 1074) (natAbs (k *ℤ pos (2 ^ 1074))) (natAbs (valueOf x)) (unitsOf x) r (natAbs (negℤ (pos r))) (2 ^ 1074) (natAbs (valueOf x +ℤ negℤ (pos r))) (abs-times k (2 ^ 1074)) (ap natAbs e) (natAbs-add (valueOf x) (negℤ (pos r))) (abs-value x) (abs-opposite r) (c .under-one)
+  where
+    go : (a b v u r t l s : ℕ) → b ≡ a → b ≡ s → s ≤ v + t → v ≡ u → t ≡ r → r < l → a ≤ u + l
+    go a b v u r t l s p q h e f i = omega arith
+
+-- x / y, of an x of at most 2 ^ 25 and a length y
+spread : (l v a p d c : ℕ) → 0 < d → a ≤ 2 ^ 25 * (d * c) → 2 ^ 52 * (v * (p * d)) ≤ 2 ^ 52 * (a * l) + a * l + 2 ^ 52 * (p * d) → v * p ≤ 2 ^ 26 * (c * l) + p
+spread l v a p d c D h k = le-of-mul-le-mul-right {k = d} (le-trans (go (a * l) (d * c * l) (v * p * d) (p * d) (omega (arith, mul-le-mul-right l h)) (omega arith)) (le-of-eq (turned (2 ^ 26)))) D
+  where
+    go : (x y s t : ℕ) → x ≤ 2 ^ 25 * y → 2 ^ 52 * s ≤ 2 ^ 52 * x + x + 2 ^ 52 * t → s ≤ 2 ^ 26 * y + t
+    go x y s t h k = omega arith
+
+    turned : (M : ℕ) → M * (d * c * l) + p * d ≡ (M * (c * l) + p) * d
+    turned M = omega arith
+
+rounded-size : (s : Bool) (a p n M : ℕ) → p ≤ M → n ≤ M → over s a + n ≡ p + under s a → a ≤ M
+rounded-size true a p n M h k e = omega arith
+rounded-size false a p n M h k e = omega arith
+
+module _ (x y : Float) (h : Within 25 x) (k : Length y) (w : Within 10 y) where
+  -- k lengths, where k is less than one away from x / y
+  lengths : (l v a : ℕ) → 1 ≤ l → v * plus y ≤ 2 ^ 26 * (den y * l) + plus y → a * l ≤ v + l → a * plus y ≤ 2 ^ 27 * den y
+  lengths l v a L p q = le-of-mul-le-mul-right {k = l} (go (plus y) (den y) p (parts 10 y w .0)) L
+    where
+      go : (P D : ℕ) → v * P ≤ 2 ^ 26 * (D * l) + P → P ≤ 2 ^ 10 * D → a * P * l ≤ 2 ^ 27 * D * l
+      go P D i j = omega (arith, mul-le-mul-right P q, mul-le-mul-right l j, mul-le-mul-left D L)
+
+  pub many : (a : ℕ) → a * 2 ^ 1074 ≤ unitsOf (x ⊘ y) + 2 ^ 1074 → a * plus y ≤ 2 ^ 27 * den y
+  many a b =
+      let fx = within-finite 25 x h in
+      let C : 0 < plus y * den x = mul-pos (lt-of-lt-of-le (den-pos y) (k .one)) (den-pos x) in
+      let r = div-rounded x y fx (k .fine) (k .above) in
+      let s = parts 25 x h in
+      let i = over-one (2 ^ 25) (plus x) (den x) (den y) (s .0) in
+      let j = over-one (2 ^ 25) (less x) (den x) (den y) (s .1) in
+      let c = rounded-close 25 (lit≤ tt) C r (le-trans i (wider (2 ^ 25) (den x) (den y) (plus y) (k .one))) (le-trans j (wider (2 ^ 25) (den x) (den y) (plus y) (k .one))) in
+      lengths (2 ^ 1074) (unitsOf (x ⊘ y)) a (lit≤ tt) (spread (2 ^ 1074) (unitsOf (x ⊘ y)) (r .size) (plus y) (den x) (den y) (den-pos x) (rounded-size (r .sign) (r .size) (plus x * den y) (less x * den y) (2 ^ 25 * (den x * den y)) i j (r .value)) (c .most)) b
+    where
+      over-one : (M p d c : ℕ) → p ≤ M * d → p * c ≤ M * (d * c)
+      over-one M p d c h = omega (arith, mul-le-mul-right c h)
+
+      wider : (M d c n : ℕ) → c ≤ n → M * (d * c) ≤ M * (n * d)
+      wider M d c n h = omega (arith, mul-le-mul-left (M * d) h)
+
+-- ---- from lo to hi
+through-all : (lo hi : ℤ) → All (λ m. natAbs m ≤ 2 * natAbs lo + natAbs hi) (through lo hi)
+unfolding through howMany
+through-all lo hi =
+    all-mapped (λ i. i ≤ natAbs (hi -ℤ lo)) (λ m. natAbs m ≤ 2 * natAbs lo + natAbs hi) (λ i. lo +ℤ pos i) (λ i l. omega (arith, natAbs-add lo (pos i), natAbs-add hi (negℤ lo), abs-neg lo))
+    (upto 0 (cond (leZ lo hi) (natAbs (hi -ℤ lo) + 1) 0)) (few (leZ lo hi))
+  where
+    abs-neg : (b : ℤ) → natAbs (negℤ b) ≡ natAbs b
+    abs-neg (pos a) = abs-opposite a
+    abs-neg (negsuc n) = refl
+
+    few : (b : Bool) → All (λ i. i ≤ natAbs (hi -ℤ lo)) (upto 0 (cond b (natAbs (hi -ℤ lo) + 1) 0))
+    few true = all-map (λ i l. omega arith) (upto 0 (natAbs (hi -ℤ lo) + 1)) (upto-all 0 (natAbs (hi -ℤ lo) + 1))
+    few false = tt
+
+-- ---- m lengths, rounded
+size-of : (x : Float) (s : Bool) (a : ℕ) → HasValue x s a 1 → T (finite x) × (plus x + less x ≡ a * den x)
+unfolding finite
+size-of nan s a h = absurd h
+size-of (inf t) s a h = absurd h
+size-of (fin true m e) s a h = (tt, omega (arith, h .1))
+size-of (fin false m e) s a h = (tt, omega (arith, h .1))
+
+real-size : (k : ℤ) → natAbs k ≤ 2 ^ 27 → T (finite (real k)) × (plus (real k) + less (real k) ≡ natAbs k * den (real k))
+unfolding ofInt
+real-size (pos a) h = size-of (round binary64 false a 1) false a (round-whole binary64 false a (le-trans h (lit≤ tt)))
+real-size (negsuc a) h = size-of (round binary64 true (suc a) 1) true (suc a) (round-whole binary64 true (suc a) (le-trans h (lit≤ tt)))
+
+multiple : (k : ℤ) (y : Float) → natAbs k ≤ 2 ^ 27 → T (finite y) → less y ≡ 0 → natAbs k * plus y ≤ 2 ^ 29 * den y → Within 29 (real k ⊗ y)
+multiple k y h f z b =
+    let x = real k in
+    let r = real-size k h in
+    within-rounded 29 (lit≤ tt) (mul-pos (den-pos x) (den-pos y)) (mul-rounded x y (r .0) f) (go (plus x) (less x) (den x) (plus y) (less y) (den y) (natAbs k) (r .1) z b .0) (go (plus x) (less x) (den x) (plus y) (less y) (den y) (natAbs k) (r .1) z b .1)
+  where
+    go : (p n d q m c a : ℕ) → p + n ≡ a * d → m ≡ 0 → a * q ≤ 2 ^ 29 * c → (p * q + n * m ≤ 2 ^ 29 * (d * c)) × (p * m + n * q ≤ 2 ^ 29 * (d * c))
+    go p n d q m c a e z h = (
+      omega (arith, ap (λ (k : ℕ). k * q) e, ap (λ (k : ℕ). n * k) z, mul-le-mul-right d h),
+      omega (arith, ap (λ (k : ℕ). k * q) e, ap (λ (k : ℕ). p * k) z, mul-le-mul-right d h),
+    )
+
+-- ---- the points of a row, and of a section
+module _ (outline : List (List P)) (g : Settings) (stagger : ℕ) (ok : Checked outline g stagger) where
+  pub asked : Length (g .len)
+  asked = length-is (g .len) (len-least outline g stagger ok) (len-within outline g stagger ok)
+
+  -- a needle's place: it fits, and is small
+  abbrev Placed : Float → Type 0
+  Placed x = T (fits binary64 x) × Within 30 x
+
+  module _ (p : Piece) (small : Small p) where
+    low : natAbs (m0 g stagger p) * plus (g .len) ≤ 2 ^ 27 * den (g .len)
+    low =
+        let off = offset g stagger (p .k) in
+        let x = p .xa ⊕ minEnd g ⊖ off in
+        let w = within-sub 24 (p .xa ⊕ minEnd g) off (lit≤ tt) (within-add 23 (p .xa) (minEnd g) (lit≤ tt) (small .xa) (within-more 10 23 (minEnd g) (lit≤ tt) (end-within outline g stagger ok))) (within-more 20 24 off (lit≤ tt) (offset-within outline g stagger ok (p .k))) in
+        many x (g .len) w asked (len-within outline g stagger ok) (natAbs (m0 g stagger p))
+        (ceil-size (x ⊘ g .len) (m0 g stagger p) (div-fits binary64 x (g .len)) (within-finite 25 (x ⊘ g .len) (within-div 25 0 x (g .len) (lit≤ tt) w (len-least outline g stagger ok))) (m0-whole outline g stagger ok p small))
+
+    high : natAbs (m1 g stagger p) * plus (g .len) ≤ 2 ^ 27 * den (g .len)
+    high =
+        let off = offset g stagger (p .k) in
+        let x = p .xb ⊖ minEnd g ⊖ off in
+        let w = within-sub 24 (p .xb ⊖ minEnd g) off (lit≤ tt) (within-sub 23 (p .xb) (minEnd g) (lit≤ tt) (small .xb) (within-more 10 23 (minEnd g) (lit≤ tt) (end-within outline g stagger ok))) (within-more 20 24 off (lit≤ tt) (offset-within outline g stagger ok (p .k))) in
+        many x (g .len) w asked (len-within outline g stagger ok) (natAbs (m1 g stagger p))
+        (floor-size (x ⊘ g .len) (m1 g stagger p) (div-fits binary64 x (g .len)) (within-finite 25 (x ⊘ g .len) (within-div 25 0 x (g .len) (lit≤ tt) w (len-least outline g stagger ok))) (m1-whole outline g stagger ok p small))
+
+    few : (m : ℤ) → natAbs m ≤ 2 * natAbs (m0 g stagger p) + natAbs (m1 g stagger p) → natAbs m ≤ 2 ^ 27
+    few m h = omega (arith, m0-whole outline g stagger ok p small .small, m1-whole outline g stagger ok p small .small)
+
+    reach : (m : ℤ) → natAbs m ≤ 2 * natAbs (m0 g stagger p) + natAbs (m1 g stagger p) → natAbs m * plus (g .len) ≤ 2 ^ 29 * den (g .len)
+    reach m h = omega (arith, mul-le-mul-right (plus (g .len)) h, low, high)
+
+    needles-placed : All Placed (needles g stagger p)
+    unfolding needles
+    needles-placed =
+        let off = offset g stagger (p .k) in
+        all-mapped (λ m. natAbs m ≤ 2 * natAbs (m0 g stagger p) + natAbs (m1 g stagger p)) Placed (λ m. off ⊕ real m ⊗ g .len)
+        (λ m l. (
+          add-fits binary64 off (real m ⊗ g .len),
+          within-add 29 off (real m ⊗ g .len) (lit≤ tt) (within-more 20 29 off (lit≤ tt) (offset-within outline g stagger ok (p .k)))
+              (multiple m (g .len) (few m l) (asked .fine) (asked .up) (reach m l)),
+        ))
+        (through (m0 g stagger p) (m1 g stagger p)) (through-all (m0 g stagger p) (m1 g stagger p))
+
+  row-points : (e : Entry) → Fine (e .piece) → All Point (rowPoints g stagger e)
+  unfolding rowPoints
+  row-points e f =
+      let p = e .piece in
+      let xs : All Placed (p .xa ∷ (needles g stagger p ++ (p .xb ∷ []))) =
+      ((f .fit-a, within-more 23 30 (p .xa) (lit≤ tt) (f .small .xa)), all-append Placed (needles g stagger p) (p .xb ∷ []) (needles-placed p (f .small)) ((f .fit-b, within-more 23 30 (p .xb) (lit≤ tt) (f .small .xb)), tt)) in
+      turn-round (eqb (e .nth % 2) 0) (map (λ x. point x (p .y)) (p .xa ∷ (needles g stagger p ++ (p .xb ∷ []))))
+      (all-mapped Placed Point (λ x. point x (p .y)) (λ x w. record { fit-x = w .0; fit-y = f .fit-y; small-x = w .1; small-y = within-more 19 30 (p .y) (lit≤ tt) (f .y) }) (p .xa ∷ (needles g stagger p ++ (p .xb ∷ []))) xs)
+    where
+      turn-round : (b : Bool) (l : List P) → All Point l → All Point (cond b l (reverse l))
+      turn-round true l h = h
+      turn-round false l h = all-reverse Point l h
+
+  pub targets : (es : List Entry) → All (λ e. Fine (e .piece)) es → All Point (each (rowPoints g stagger) es)
+  targets es h = all-parts (λ e. Fine (e .piece)) Point (rowPoints g stagger) row-points es h
