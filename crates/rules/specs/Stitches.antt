@@ -80,13 +80,13 @@ abbrev pub Outer : P → Type 0
 Outer p = Within 80 (p .x) × Within 80 (p .y)
 
 module _ (outline : List (List P)) (g : Settings) (stagger : ℕ) (ok : Checked outline g stagger) where
-  len-within : Within 10 (g .len)
+  pub len-within : Within 10 (g .len)
   len-within = within-between 10 (real (pos 1)) (g .len) (real (pos 1000)) (ok .len .least) (ok .len .most) (within-real 10 (pos 1) (lit≤ tt) (lit≤ tt)) (within-real 10 (pos 1000) (lit≤ tt) (lit≤ tt))
 
-  len-least : AtLeast 0 (g .len)
+  pub len-least : AtLeast 0 (g .len)
   len-least = atleast-le 0 (real (pos 1)) (g .len) one-least (within-finite 10 (g .len) len-within) (ok .len .least)
 
-  offset-within : (k : ℤ) → Within 20 (offset g stagger k)
+  pub offset-within : (k : ℤ) → Within 20 (offset g stagger k)
   unfolding offset
   offset-within k =
       let c = cycle stagger in
@@ -96,7 +96,7 @@ module _ (outline : List (List P)) (g : Settings) (stagger : ℕ) (ok : Checked 
       (within-mul 10 10 (real (pos r)) (g .len) (lit≤ tt) (within-real 10 (pos r) (lit≤ tt) (omega (arith, rem-below k c (s .0), s .1))) len-within)
       (count-least c (s .0) (omega (arith, s .1)))
 
-  end-within : Within 10 (minEnd g)
+  pub end-within : Within 10 (minEnd g)
   unfolding minEnd
   end-within =
       smaller-has (Within 10) (g .len ⊗ literal 1 4) (literal 5 1)

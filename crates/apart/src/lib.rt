@@ -1,0 +1,1 @@
+// No stitch longer than asked (request [12]): in specs/. No code.
