@@ -28,6 +28,8 @@ extern "C" {
 #define BEAHCEROT_STITCH 0
 #define BEAHCEROT_JUMP 1
 #define BEAHCEROT_STOP 2
+#define BEAHCEROT_ABSENT 10
+#define BEAHCEROT_VERSION 11
 
 uint64_t beahcerot_split_long(const double *line, size_t line_len, double max, double *out, size_t out_len, uint64_t *count);
 
@@ -130,6 +132,12 @@ uint64_t beahcerot_winding(const double *corners, size_t corners_len, const size
 uint64_t beahcerot_point_inside(const double *corners, size_t corners_len, const size_t *ends, size_t ends_len, uint64_t rule, double x, double y, uint64_t *value);
 
 uint64_t beahcerot_segment_inside(const double *corners, size_t corners_len, const size_t *ends, size_t ends_len, uint64_t rule, double ax, double ay, double bx, double by, double step, uint64_t *value);
+
+uint64_t beahcerot_book_store(uint8_t *book, size_t book_len, uint16_t number, double spacing, double len, double inset, double pull, uint64_t stagger);
+
+uint64_t beahcerot_book_fetch(const uint8_t *book, size_t book_len, uint16_t number, double *spacing, double *len, double *inset, double *pull, uint64_t *stagger);
+
+uint64_t beahcerot_book_remove(uint8_t *book, size_t book_len, uint16_t number);
 
 #ifdef __cplusplus
 }

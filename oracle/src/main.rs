@@ -1,5 +1,6 @@
 //! The oracle: the proved library beside the Rust it was ported from.
 
+mod book;
 mod compare;
 mod dst;
 mod expect;

@@ -682,3 +682,24 @@ pub mod salvage {
         }
     }
 }
+
+/// The sheet book: `floats` are spacing, len, inset and pull.
+pub mod book {
+    use super::raw::{beahcerot_book_fetch, beahcerot_book_remove, beahcerot_book_store};
+
+    pub fn store(list: &mut [u8], number: u16, floats: [f64; 4], stagger: u64) -> u64 {
+        let [spacing, len, inset, pull] = floats;
+        let (book, size) = (list.as_mut_ptr(), list.len());
+        unsafe { beahcerot_book_store(book, size, number, spacing, len, inset, pull, stagger) }
+    }
+
+    pub fn fetch(list: &[u8], number: u16, floats: &mut [f64; 4], stagger: &mut u64) -> u64 {
+        let [spacing, len, inset, pull] = floats;
+        let (book, size) = (list.as_ptr(), list.len());
+        unsafe { beahcerot_book_fetch(book, size, number, spacing, len, inset, pull, stagger) }
+    }
+
+    pub fn remove(list: &mut [u8], number: u16) -> u64 {
+        unsafe { beahcerot_book_remove(list.as_mut_ptr(), list.len(), number) }
+    }
+}

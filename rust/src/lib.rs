@@ -3,6 +3,7 @@
 //! answers what is sewn or the refusal's name. Whatever the outline, a call
 //! ends; an answer that memory cannot hold ends the program, as with any `Vec`.
 
+pub mod book;
 mod fill;
 mod line;
 pub mod machine;

@@ -55,4 +55,7 @@ unsafe extern "C" {
     pub fn beahcerot_winding(corners: *const f64, corners_len: usize, ends: *const usize, ends_len: usize, x: f64, y: f64, value: *mut i64) -> u64;
     pub fn beahcerot_point_inside(corners: *const f64, corners_len: usize, ends: *const usize, ends_len: usize, rule: u64, x: f64, y: f64, value: *mut u64) -> u64;
     pub fn beahcerot_segment_inside(corners: *const f64, corners_len: usize, ends: *const usize, ends_len: usize, rule: u64, ax: f64, ay: f64, bx: f64, by: f64, step: f64, value: *mut u64) -> u64;
+    pub fn beahcerot_book_store(book: *mut u8, book_len: usize, number: u16, spacing: f64, len: f64, inset: f64, pull: f64, stagger: u64) -> u64;
+    pub fn beahcerot_book_fetch(book: *const u8, book_len: usize, number: u16, spacing: *mut f64, len: *mut f64, inset: *mut f64, pull: *mut f64, stagger: *mut u64) -> u64;
+    pub fn beahcerot_book_remove(book: *mut u8, book_len: usize, number: u16) -> u64;
 }

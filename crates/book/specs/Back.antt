@@ -109,7 +109,7 @@ stored-whole n v =
     let q = length-says n v in
     record { is = size-whole (sheetBytes n v) (omega (arith, l)) (omega (arith, q)) (omega (arith, q, l)) ∙ omega (arith, q, l); some = omega (arith, l) }
 
-all-replaced : (n : ℕ) (t : List ℕ) (ts : List (List ℕ)) → Whole t → AllWhole ts → AllWhole (replaced n t ts)
+pub all-replaced : (n : ℕ) (t : List ℕ) (ts : List (List ℕ)) → Whole t → AllWhole ts → AllWhole (replaced n t ts)
 unfolding replaced
 all-replaced n t [] w a = (w, tt)
 all-replaced n t (u ∷ us) w a = elim (either (eqb (numberOf u) n)) [ inl e ↦ rw e (w, a .1) | inr e ↦ rw e (a .0, all-replaced n t us w (a .1)) ]
@@ -172,23 +172,25 @@ rest-zeros : (m : ℕ) (ts : List (List ℕ)) → ended (drop (length (joined ts
 unfolding filled
 rest-zeros m ts = rw (drop-append-seam (joined ts) (replicate (m - length (joined ts)) 0)) (ended-zeros (m - length (joined ts)))
 
-filled-good : (m : ℕ) (ts : List (List ℕ)) → AllWhole ts → goodSheets ts ≡ true → goodBook (filled m (joined ts)) ≡ true
+pub filled-good : (m : ℕ) (ts : List (List ℕ)) → AllWhole ts → goodSheets ts ≡ true → goodBook (filled m (joined ts)) ≡ true
 unfolding goodBook
 filled-good m ts w g = rw (filled-back m ts w, g, rest-zeros m ts)
 
-remove-good : (s : List ℕ) (n : ℕ) → removeRefusal s n ≡ DONE → goodSheets (sheets s) ≡ true
-unfolding removeRefusal goodBook
-remove-good s n e = elim (either (goodSheets (sheets s))) [
+pub good-sheets : (s : List ℕ) → goodBook s ≡ true → goodSheets (sheets s) ≡ true
+unfolding goodBook
+good-sheets s g = and-both (goodSheets (sheets s)) (ended (drop (length (joined (sheets s))) s)) g .0
+
+pub remove-good : (s : List ℕ) (n : ℕ) → removeRefusal s n ≡ DONE → goodBook s ≡ true
+unfolding removeRefusal
+remove-good s n e = elim (either (goodBook s)) [
   | inl g ↦ g
   | inr g ↦ let z : _≡_ {A = ℕ} 1 0 = rw g at e in absurd (omega (arith, z))
 ]
 
-after-good : (s : List ℕ) (n : ℕ) → removeRefusal s n ≡ DONE → goodSheets (sheets s) ≡ true → goodBook (afterRemove s n) ≡ true
+pub after-remove-good : (s : List ℕ) (n : ℕ) → removeRefusal s n ≡ DONE → goodBook (afterRemove s n) ≡ true
 unfolding afterRemove
-after-good s n e g = rw e (filled-good (length s) (without n (sheets s)) (all-without n (sheets s) (sheets-whole s)) (good-without n (sheets s) g))
+after-remove-good s n e = rw e (filled-good (length s) (without n (sheets s)) (all-without n (sheets s) (sheets-whole s)) (good-without n (sheets s) (good-sheets s (remove-good s n e))))
 
 pub removed-absent : (s : List ℕ) (n : ℕ) → removeRefusal s n ≡ DONE → fetched (afterRemove s n) n ≡ Refused ABSENT
 unfolding fetched fetchRefusal
-removed-absent s n e =
-    let g = remove-good s n e in
-    rw (after-good s n e g, remove-back s n e, gone n (sheets s) g)
+removed-absent s n e = rw (after-remove-good s n e, remove-back s n e, gone n (sheets s) (good-sheets s (remove-good s n e)))

@@ -5,4 +5,5 @@ pub mod FetchLaws
 pub mod KeepLaws
 pub mod Back
 pub mod Stored
+pub mod Fetches
 pub mod Examples

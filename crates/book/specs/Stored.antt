@@ -62,6 +62,9 @@ module _ (n : ℕ) (v : Values) where
   unfolding numberOf number sheetBytes headBytes valueBytes bits bytes
   number-says = refl
 
+  pub number-back : n < 65536 → numberOf (sheetBytes n v) ≡ n
+  number-back h = number-says ∙ bytes-value 2 n (lt-of-lt-of-le h (lit≤ tt))
+
   -- every f64 fits; a stagger that is accepted is far below 32 bits
   pub values-back : T (fits binary64 (v .spacing)) → T (fits binary64 (v .len)) → T (fits binary64 (v .inset)) → T (fits binary64 (v .pull)) → v .stagger ≤ 1000 → valuesOf (sheetBytes n v) ≡ v
   unfolding valuesOf
@@ -71,11 +74,11 @@ module _ (n : ℕ) (v : Values) where
       below : v .stagger ≤ 1000 → v .stagger < 1001
       below h = omega arith
 
-sheet-replaced : (n : ℕ) (t : List ℕ) (ts : List (List ℕ)) → numberOf t ≡ n → sheetOf n (replaced n t ts) ≡ t
+pub sheet-replaced : (n : ℕ) (t : List ℕ) (ts : List (List ℕ)) → numberOf t ≡ n → sheetOf n (replaced n t ts) ≡ t
 unfolding sheetOf replaced
 sheet-replaced n t [] e = rw (eq-eqb (numberOf t) n e)
 sheet-replaced n t (u ∷ us) e = elim (either (eqb (numberOf u) n)) [ inl d ↦ rw (d, eq-eqb (numberOf t) n e) | inr d ↦ rw (d, d) (sheet-replaced n t us e) ]
 
 -- the sheet found under the number is the one that was stored
 pub stored-found : (s : List ℕ) (n : ℕ) (v : Values) → n < 65536 → storeRefusal s n v ≡ DONE → sheetOf n (sheets (afterStore s n v)) ≡ sheetBytes n v
-stored-found s n v h e = rw (store-back s n v e) (sheet-replaced n (sheetBytes n v) (sheets s) (number-says n v ∙ bytes-value 2 n (lt-of-lt-of-le h (lit≤ tt))))
+stored-found s n v h e = rw (store-back s n v e) (sheet-replaced n (sheetBytes n v) (sheets s) (number-back n v h))

@@ -52,6 +52,9 @@ use Rattle.exports.proofs.fill.beahcerot_fill_job
 use Rattle.exports.proofs.machine.beahcerot_dst
 use Rattle.exports.proofs.machine.beahcerot_dst_read
 use Rattle.exports.proofs.mending.beahcerot_salvage
+use Rattle.exports.proofs.sheets.beahcerot_book_store
+use Rattle.exports.proofs.sheets.beahcerot_book_fetch
+use Rattle.exports.proofs.sheets.beahcerot_book_remove
 
 -- ---- the numbers
 
@@ -221,3 +224,14 @@ dst-read-entry κs a x y h k = both (one (h .0) (k .0)) (λ i. (tt, (one (h .3) 
 
 pub salvage-entry : One beahcerot_salvage.ended beahcerot_salvage.Reads.Learnt
 salvage-entry κs a x y h k = let s = one h k in λ i. (s i .said .answer, (tt, (tt, (s i .corners, (s i .ends, (s i .places, (s i .reasons, (s i .said .corners, (s i .said .dropped, tt)))))))))
+
+-- ---- the sheet book
+
+pub book-store-entry : One beahcerot_book_store.ended beahcerot_book_store.Reads.Learnt
+book-store-entry κs a x y h k = both (one (h .0) (k .0)) (λ i. (one (h .1) (k .1) i, (tt, (tt, (tt, (tt, (tt, (tt, tt))))))))
+
+pub book-fetch-entry : One beahcerot_book_fetch.ended beahcerot_book_fetch.Reads.Learnt
+book-fetch-entry κs a x y h k = both (one (h .0) (k .0)) (λ i. (tt, (tt, (one (h .1) (k .1) i, (one (h .2) (k .2) i, (one (h .3) (k .3) i, (one (h .4) (k .4) i, (one (h .5) (k .5) i, tt))))))))
+
+pub book-remove-entry : One beahcerot_book_remove.ended beahcerot_book_remove.Reads.Learnt
+book-remove-entry κs a x y h k = both (one (h .0) (k .0)) (λ i. (one (h .1) (k .1) i, (tt, tt)))

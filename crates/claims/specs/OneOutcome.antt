@@ -66,6 +66,9 @@ use Rattle.desk.proofs.fill_job
 use Rattle.dst.proofs.dst
 use Rattle.dst_read.proofs.dst_read
 use Rattle.salvage.proofs.salvage
+use Rattle.book.proofs.store
+use Rattle.book.proofs.fetch
+use Rattle.book.proofs.remove
 
 -- ---- one outcome
 
@@ -276,3 +279,14 @@ dst-read-outcome κs a x y h k = both (one (h .0) (k .0)) (λ i. (tt, (one (h .1
 
 pub salvage-outcome : One salvage.ended salvage.Reads.Learnt
 salvage-outcome κs a x y h k = let s = one h k in λ i. (s i .said, (tt, (tt, (s i .corners, (s i .ends, (s i .places, (s i .reasons, tt)))))))
+
+-- ---- the sheet book
+
+pub store-outcome : One store.ended store.Reads.Learnt
+store-outcome κs a x y h k = both (one (h .0) (k .0)) (λ i. (one (h .1) (k .1) i, (tt, (tt, tt))))
+
+pub fetch-outcome : One fetch.ended fetch.Reads.Learnt
+fetch-outcome κs a x y h k = both (one h k) refl
+
+pub remove-outcome : One remove.ended remove.Reads.Learnt
+remove-outcome κs a x y h k = both (one (h .0) (k .0)) (λ i. (one (h .1) (k .1) i, (tt, tt)))

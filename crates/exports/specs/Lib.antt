@@ -3,3 +3,4 @@ pub mod Stored
 pub mod Fills
 pub mod Borders
 pub mod Mendings
+pub mod Sheets

@@ -8,3 +8,4 @@ pub mod mending;
 pub mod number;
 pub mod pattern;
 pub mod shape;
+pub mod sheets;

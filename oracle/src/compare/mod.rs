@@ -2,6 +2,7 @@
 //! report differences, one way to time. A group is a file with a list of
 //! functions; see README.md for how to add one.
 
+mod book;
 mod dst;
 mod dst_read;
 pub mod fill;
@@ -545,6 +546,7 @@ pub fn groups() -> Vec<Group> {
                 .collect(),
         ),
         group("mending", salvage::functions()),
+        group("book", book::functions()),
     ]
 }
 
