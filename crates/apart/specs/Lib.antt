@@ -8,3 +8,4 @@ pub mod Distances
 pub mod Ways
 pub mod Sizes
 pub mod Theorems
+pub mod Examples
