@@ -2,10 +2,10 @@
 use mathlib.Core.Path.{_≡_, refl}
 use mathlib.Core.Bool.{true, false}
 use mathlib.Core.List.{List, [], _∷_}
-use Prim.Native.Nat.{ℕ, _^_, _+_, _*_}
-use lib.IntN.{pos, negsuc}
+use Prim.Native.Nat.{ℕ, _^_, _+_}
+use lib.IntN.{pos}
 use lib.Ieee.{Float, nan, inf, fin, add, sub, mul, div, neg, lt, le, eq, ofInt, round, toSigned, toUnsigned, toBits, size, odd, isNan}
-use Rattle.numbers.specs.Num.{literal, zero64}
+use Rattle.numbers.specs.Num.{literal}
 use Rattle.numbers.specs.Order.{negative, before, smaller, larger, magnitude, finite}
 use Rattle.numbers.specs.Whole.{wholeOf, floor, ceil}
 use Rattle.numbers.specs.Root.{isqrt, nearRoot, rootUnits, root}
@@ -63,7 +63,7 @@ Q = (pt 0 0 ∷ pt 10 0 ∷ pt 10 10 ∷ pt 0 10 ∷ []) ∷ []
 abbrev set : ℕ → Settings
 set len = record { spacing = n 4; len = n len; inset = n 0; pull = n 0; cosine = n 0; sine = n 1 }
 
--- a point below zero
+-- a whole x, and a y
 abbrev under : ℕ → Float → P
 under a y = point (n a) y
 
@@ -82,12 +82,12 @@ pub before-turning : allUnturned Q NonZero (set 5) 1 false ≡ (under 0 ten ∷ 
 unfolding add sub mul div neg lt le eq ofInt round toSigned toUnsigned toBits size odd isNan literal negative before smaller larger magnitude wholeOf floor ceil isqrt nearRoot rootUnits root len dist lerp along Rattle.outlines.specs.Winding.edge Rattle.outlines.specs.Winding.edges ring winding inside pointInside sidesTo sides edgeOf keptSide turned edges howMany through ymin ymax kLo kHi rowNumbers rowAt starts lives crossX byX crossed dir crossing sameX mergedFrom merged crossings spans shrink pieceOf minRow wide piecesAt piecesOf overlap linkEnds linkInside connects joined joins rowEntries begun entries met rowList section sections cycle remEuclid offset minEnd m0 m1 needles rowPoints parts between sewFrom sew unturned allUnturned
 before-turning = refl
 
--- len 3: rows and links are cut, 5 of the row in two and 4 of a link in two
+-- len 3: each link, of 4, is cut in two
 pub none-longer : every (neighbours (noFarther (n 3))) (allUnturned Q NonZero (set 3) 1 false) ≡ true
 unfolding add sub mul div neg lt le eq ofInt round toSigned toUnsigned toBits size odd isNan literal negative before smaller larger magnitude wholeOf floor ceil isqrt nearRoot rootUnits root len dist lerp along Rattle.outlines.specs.Winding.edge Rattle.outlines.specs.Winding.edges ring winding inside pointInside sidesTo sides edgeOf keptSide turned edges howMany through ymin ymax kLo kHi rowNumbers rowAt starts lives crossX byX crossed dir crossing sameX mergedFrom merged crossings spans shrink pieceOf minRow wide piecesAt piecesOf overlap linkEnds linkInside connects joined joins rowEntries begun entries met rowList section sections cycle remEuclid offset minEnd m0 m1 needles rowPoints parts between sewFrom sew unturned allUnturned gap valueOf unitsOf finite noFarther neighbours
 none-longer = refl
 
--- which are longer than 2
+-- of its stitches some are longer than 1.001
 pub some-longer : every (neighbours (noFarther (n 1))) (allUnturned Q NonZero (set 3) 1 false) ≡ false
 unfolding add sub mul div neg lt le eq ofInt round toSigned toUnsigned toBits size odd isNan literal negative before smaller larger magnitude wholeOf floor ceil isqrt nearRoot rootUnits root len dist lerp along Rattle.outlines.specs.Winding.edge Rattle.outlines.specs.Winding.edges ring winding inside pointInside sidesTo sides edgeOf keptSide turned edges howMany through ymin ymax kLo kHi rowNumbers rowAt starts lives crossX byX crossed dir crossing sameX mergedFrom merged crossings spans shrink pieceOf minRow wide piecesAt piecesOf overlap linkEnds linkInside connects joined joins rowEntries begun entries met rowList section sections cycle remEuclid offset minEnd m0 m1 needles rowPoints parts between sewFrom sew unturned allUnturned gap valueOf unitsOf finite noFarther neighbours
 some-longer = refl
