@@ -89,14 +89,26 @@ fn star(r: &mut Rng, x: f64, y: f64, wide: f64, high: f64, n: u64) -> Polyline {
 /// A fill inside the limits: anywhere up to 100,000, the lengths' ends among its settings.
 fn fill(r: &mut Rng) -> (Vec<Polyline>, FillParams) {
     let some = r.between(1.0, 1000.0);
-    let len = r.of(&[1.0, 1.0f64.next_up(), 1000.0, 1000.0f64.next_down(), 10.0, some]);
-    let spacing = r.of(&[0.5, 4.0, 1000.0, len * 1.5, len * 3.0]).clamp(0.5, 1000.0);
+    let len = r.of(&[
+        1.0,
+        1.0f64.next_up(),
+        1000.0,
+        1000.0f64.next_down(),
+        10.0,
+        some,
+    ]);
+    let spacing = r
+        .of(&[0.5, 4.0, 1000.0, len * 1.5, len * 3.0])
+        .clamp(0.5, 1000.0);
     let wide = (len * r.between(2.0, 400.0)).min(45_000.0);
     let high = (spacing * r.between(2.0, 30.0)).min(45_000.0);
     let far = r.of(&[0.0, 1000.0, 50_000.0]);
     let (x, y) = (r.between(-far, far), r.between(-far, far));
     let rings = if r.next() % 4 == 0 {
-        vec![block(x, y, wide, high), block(x + wide / 4.0, y + high / 4.0, wide / 2.0, high / 2.0)]
+        vec![
+            block(x, y, wide, high),
+            block(x + wide / 4.0, y + high / 4.0, wide / 2.0, high / 2.0),
+        ]
     } else {
         let n = 3 + r.next() % 12;
         vec![star(r, x, y, wide, high, n)]
@@ -119,7 +131,11 @@ fn no_stitch_is_longer_than_asked() {
     let (mut r, mut most, mut all) = (Rng(12), -1000.0f64, 0);
     for _ in 0..count {
         let (rings, p) = fill(&mut r);
-        let rule = if r.next() % 2 == 0 { FillRule::NonZero } else { FillRule::EvenOdd };
+        let rule = if r.next() % 2 == 0 {
+            FillRule::NonZero
+        } else {
+            FillRule::EvenOdd
+        };
         let (excess, stitches) = longest(&rings, rule, &p);
         all += stitches;
         most = most.max(excess);

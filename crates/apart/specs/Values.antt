@@ -17,6 +17,7 @@ use Rattle.numbers.specs.Rounded.{Rounded, add-rounded, sub-rounded, mul-rounde
 use Rattle.numbers.specs.Bounds.{within-finite, within-round}
 use Rattle.apart.specs.Errors.{Close, round-sign, round-close}
 
+-- the units of x where it is above zero, and where it is below
 unfoldable pub hi : Float → ℕ
 hi x = over (negative x) (unitsOf x)
 
