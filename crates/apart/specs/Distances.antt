@@ -3,11 +3,11 @@ use mathlib.Core.Path.{_≡_, refl, sym, ap, _∙_, subst}
 use mathlib.Core.Bool.{Bool, true, false, not}
 use mathlib.Core.Logic.{inl, inr}
 use Prim.Native.Nat.{ℕ, zero, suc, _+_, _-_, _*_, _/_, _^_, _≤_, _<_, zero-le}
-use native.Mathlib.Nat.{zero-mul, mul-one, one-mul, mul-assoc, mul-pos, mul-le-mul, mul-le-mul-left, mul-le-mul-right, le-of-mul-le-mul-right, eq-of-mul-eq-mul-right, le-trans, le-of-eq, le-of-lt, lt-of-lt-of-le, div-add-mod', mod-lt, le-div-iff-mul-le}
+use native.Mathlib.Nat.{zero-mul, mul-one, one-mul, mul-pos, mul-le-mul, mul-le-mul-left, mul-le-mul-right, le-of-mul-le-mul-right, eq-of-mul-eq-mul-right, le-trans, le-of-eq, le-of-lt, lt-of-lt-of-le, div-add-mod', mod-lt, le-div-iff-mul-le}
 use native.Mathlib.Omega.{arith}
-use lib.Dec.{T, lit≤, lit<}
-use lib.Pow.{pow-pos, pow-add}
-use lib.IntN.{ℤ, pos, natAbs, negℤ, _+ℤ_, _*ℤ_}
+use lib.Dec.{T, lit≤}
+use lib.Pow.{pow-pos}
+use lib.IntN.{ℤ, pos, natAbs, negℤ, _+ℤ_}
 use lib.Ieee.{Float, nan, inf, fin, binary64, up, down, unlike, round, mul, fits, le, lt}
 use lib.Ieee.Fits.{down-pos, round-fits}
 use lib.Ieee.Positive.{den, den-pos}
@@ -18,7 +18,7 @@ use Rattle.numbers.specs.Order.{finite, negative}
 use Rattle.numbers.specs.Value.{unitsOf, valueOf, Within, AtLeast, Nearer, IsWhole}
 use Rattle.numbers.specs.Units.{units-exact}
 use Rattle.numbers.specs.Fraction.{over, under, plus, less}
-use Rattle.numbers.specs.Rounded.{Rounded, add-rounded, sub-rounded}
+use Rattle.numbers.specs.Rounded.{add-rounded, sub-rounded}
 use Rattle.numbers.specs.Monotone.{at-least-zero, div-rounded}
 use Rattle.numbers.specs.Bounds.{within-finite, within-round}
 use Rattle.numbers.specs.Roots.{above-is, nothing-below}

@@ -1,13 +1,13 @@
 -- What one rounding may err by: a part in 2 ^ 52 of the value, and a unit. Assumes nothing.
-use mathlib.Core.Path.{_≡_, refl, sym, ap, _∙_, subst}
+use mathlib.Core.Path.{_≡_, sym, ap, _∙_, subst}
 use mathlib.Core.Bool.{Bool, true, false, not}
 use Prim.Native.Nat.{ℕ, suc, _+_, _-_, _*_, _/_, _%_, _^_, _≤_, _<_, compare}
-use native.Mathlib.Nat.{mul-assoc, mul-comm, mul-pos, mul-le-mul-right, le-trans, le-of-eq, lt-of-not-le, le-div-iff-mul-le, div-add-mod', mod-lt, eq-of-mul-eq-mul-right}
+use native.Mathlib.Nat.{mul-pos, mul-le-mul-right, lt-of-not-le, le-div-iff-mul-le, div-add-mod', mod-lt, eq-of-mul-eq-mul-right}
 use native.Mathlib.Decide.{decLe}
 use native.Mathlib.Omega.{arith}
 use lib.Dec.{T}
 use lib.Pow.{pow-pos, pow-add}
-use lib.Ieee.{Float, nan, inf, fin, binary64, neg, round, size, fits}
+use lib.Ieee.{Float, nan, inf, fin, binary64, neg, round, size}
 use lib.Ieee.Digits.{size-reaches}
 use lib.Ieee.Fits.{round-fits, nearest-le}
 use lib.Ieee.Exact.{HasValue}

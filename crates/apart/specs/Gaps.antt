@@ -1,11 +1,11 @@
 -- The distance of two values along an axis, by their values with the signs taken apart. Assumes nothing.
-use mathlib.Core.Path.{_≡_, refl}
+use mathlib.Core.Path.{_≡_}
 use mathlib.Core.Bool.{Bool, true, false, not, cond}
 use mathlib.Core.Logic.{_⊎_, inl, inr}
-use Prim.Native.Nat.{ℕ, zero, suc, _+_, _-_, _*_, _≤_, _<_}
+use Prim.Native.Nat.{ℕ, zero, suc, _+_, _-_, _≤_, _<_}
 use native.Mathlib.Omega.{arith}
 use lib.Dec.{T, ltb, ltb→lt, nltb→le}
-use lib.IntN.{ℤ, pos, negsuc, negℤ, natAbs, subℕ, _-ℤ_}
+use lib.IntN.{pos, negsuc, negℤ, natAbs, subℕ, _-ℤ_}
 use lib.Ieee.{Float}
 use Rattle.numbers.specs.Order.{negative}
 use Rattle.numbers.specs.Value.{unitsOf, valueOf}

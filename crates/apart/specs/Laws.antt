@@ -1,5 +1,5 @@
 -- The arithmetic of whole numbers behind a step that is cut: no float here. Assumes nothing.
-use Prim.Native.Nat.{ℕ, suc, _+_, _-_, _*_, _^_, _≤_, _<_}
+use Prim.Native.Nat.{ℕ, _+_, _-_, _*_, _^_, _≤_, _<_}
 use mathlib.Core.Path.{_≡_, sym, ap}
 use native.Mathlib.Nat.{mul-pos, mul-le-mul, mul-le-mul-left, mul-le-mul-right, le-of-mul-le-mul-right, lt-of-not-le, le-trans, le-of-eq, one-mul, mul-add, mul-left-comm}
 use native.Mathlib.Decide.{decLe}
@@ -37,17 +37,11 @@ root-of h k w l z X Y S y M K p q r s =
 over-part : (r y W : ℕ) → 2 ^ 60 ≤ W → 2 ^ 28 * r ≤ (2 ^ 28 + 1) * W → (2 ^ 30 - 1) * ((2 ^ 27 + 1) * W) ≤ 2 ^ 30 * ((y + 1) * 2 ^ 27) → r < y
 over-part r y W b h g = omega arith
 
-under-part : (y W : ℕ) → 2 ^ 60 ≤ W → 2 ^ 30 * (y * 2 ^ 27) ≤ (2 ^ 30 + 1) * ((2 ^ 27 + 1) * W) + 2 ^ 30 * 2 ^ 27 → 2 ^ 26 * (y + 2 ^ 34) ≤ (2 ^ 26 + 2) * W
-under-part y W b g = last (first g)
-  where
-    first : 2 ^ 30 * (y * 2 ^ 27) ≤ (2 ^ 30 + 1) * ((2 ^ 27 + 1) * W) + 2 ^ 30 * 2 ^ 27 → 2 ^ 26 * y ≤ (2 ^ 26 + 1) * W
-    first k = omega arith
+padded : (y W : ℕ) → 2 ^ 60 ≤ W → 2 ^ 26 * y ≤ (2 ^ 26 + 1) * W → 2 ^ 26 * (y + 2 ^ 34) ≤ (2 ^ 26 + 2) * W
+padded y W b k = omega arith
 
-    last : 2 ^ 26 * y ≤ (2 ^ 26 + 1) * W → 2 ^ 26 * (y + 2 ^ 34) ≤ (2 ^ 26 + 2) * W
-    last k = trim y W b k
-      where
-        trim : (y W : ℕ) → 2 ^ 60 ≤ W → 2 ^ 26 * y ≤ (2 ^ 26 + 1) * W → 2 ^ 26 * (y + 2 ^ 34) ≤ (2 ^ 26 + 2) * W
-        trim y W b k = omega arith
+under-part : (y W : ℕ) → 2 ^ 60 ≤ W → 2 ^ 30 * (y * 2 ^ 27) ≤ (2 ^ 30 + 1) * ((2 ^ 27 + 1) * W) + 2 ^ 30 * 2 ^ 27 → 2 ^ 26 * (y + 2 ^ 34) ≤ (2 ^ 26 + 2) * W
+under-part y W b g = padded y W b (omega arith)
 
 with-part : (W G y : ℕ) → W ≤ 2 ^ 24 * G → 2 ^ 26 * y ≤ (2 ^ 26 + 2) * W → 2 ^ 30 * 2 ^ 30 * y ≤ (2 ^ 30 - 1) * (2 ^ 30 - 1) * (W + G)
 with-part W G y h g = let a : 2 ^ 60 * y ≤ (2 ^ 60 + 2 ^ 35) * W = omega arith in le-trans a (last W G h)

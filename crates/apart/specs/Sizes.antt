@@ -2,15 +2,14 @@
 use mathlib.Core.Path.{_≡_, refl, sym, ap, _∙_}
 use mathlib.Core.Bool.{Bool, true, false, _&&_, cond}
 use mathlib.Core.List.{List, [], _∷_, _++_, map, reverse, Permᴰ·symm}
-use Prim.Native.Nat.{ℕ, zero, suc, _+_, _*_, _%_, _^_, _≤_, _<_}
-use native.Mathlib.Nat.{mul-one, mul-pos, mul-le-mul-left, mul-le-mul-right, le-of-mul-le-mul-right, lt-of-lt-of-le, le-trans, le-of-eq}
+use Prim.Native.Nat.{ℕ, suc, _+_, _*_, _%_, _^_, _≤_, _<_}
+use native.Mathlib.Nat.{mul-pos, mul-le-mul-left, mul-le-mul-right, le-of-mul-le-mul-right, lt-of-lt-of-le, le-trans, le-of-eq}
 use native.Mathlib.Omega.{arith}
-use lib.Dec.{T, eqb, lit≤, lit<}
-use lib.Pow.{pow-pos}
+use lib.Dec.{T, eqb, lit≤}
 use lib.IntN.{ℤ, pos, negsuc, natAbs, negℤ, _+ℤ_, _-ℤ_, _*ℤ_, +ℤ-negℤ-cancel}
 use lib.Signed.{leZ}
 use lib.ListN.{length}
-use lib.Ieee.{Float, nan, inf, fin, binary64, up, down, round, ofInt, fits, le, lt}
+use lib.Ieee.{Float, nan, inf, fin, binary64, up, round, ofInt, fits, le, lt}
 use lib.Ieee.Back.{round-whole}
 use lib.Ieee.Exact.{HasValue}
 use lib.Ieee.Positive.{den, den-pos}
@@ -18,8 +17,8 @@ use Rattle.numbers.specs.Num.{_⊕_, _⊖_, _⊗_, _⊘_, zero64, real}
 use Rattle.numbers.specs.Whole.{floor, ceil}
 use Rattle.numbers.specs.Order.{finite, negative}
 use Rattle.numbers.specs.Value.{unitsOf, valueOf, Within, IsWhole}
-use Rattle.numbers.specs.Fraction.{over, under, plus, less}
-use Rattle.numbers.specs.Rounded.{Rounded, mul-rounded}
+use Rattle.numbers.specs.Fraction.{plus, less}
+use Rattle.numbers.specs.Rounded.{mul-rounded}
 use Rattle.numbers.specs.Monotone.{div-rounded}
 use Rattle.numbers.specs.CastLaws.{abs-opposite}
 use Rattle.numbers.specs.Laws.{add-fits, sub-fits, mul-fits, div-fits, lt-le, within-finite, within-more, within-between, within-add, within-sub, within-div, floor-is, ceil-is, holds}
@@ -34,10 +33,9 @@ use Rattle.geom.specs.declared.point.P.{P}
 use Rattle.geom.specs.Point.{point}
 use Rattle.outlines.specs.declared.rule.FillRule.{FillRule}
 use Rattle.rules.specs.declared.Settings.{Settings}
-use Rattle.rules.specs.declared.Edge.{Edge}
 use Rattle.rules.specs.declared.Piece.{Piece}
 use Rattle.rules.specs.declared.Entry.{Entry}
-use Rattle.rules.specs.Fill.{edges, rowNumbers, rowAt, noEdge, edge, starts, lives, byX, crossed, crossing, merged, crossings, spans, shrink, pieceOf, wide, piecesAt, piecesOf, met, rowList, section, howMany, through, offset, minEnd, m0, m1, needles, rowPoints}
+use Rattle.rules.specs.Fill.{edges, rowNumbers, rowAt, noEdge, edge, starts, lives, byX, crossed, merged, crossings, spans, shrink, pieceOf, wide, piecesAt, piecesOf, met, rowList, section, howMany, through, offset, minEnd, m0, m1, needles, rowPoints}
 use Rattle.rules.specs.Accepted.{Checked}
 use Rattle.rules.specs.Alls.{all-both, all-mapped, all-unmapped, all-parts, all-reverse}
 use Rattle.rules.specs.Edges.{Good, edges-good}
@@ -45,8 +43,7 @@ use Rattle.rules.specs.Rows.{Fair, row-within}
 use Rattle.rules.specs.FillSections.{pieces-of-rows}
 use Rattle.rules.specs.Pieces.{Small, spans-small, shrink-within, met-fair}
 use Rattle.rules.specs.Stitches.{len-within, len-least, offset-within, end-within, m0-whole, m1-whole}
-use Rattle.apart.specs.Errors.{Close}
-use Rattle.apart.specs.Values.{parts, within-rounded, rounded-close}
+use Rattle.apart.specs.Values.{parts, rounded-size, within-rounded, rounded-close}
 use Rattle.apart.specs.Distances.{Length, length-is, Point}
 
 -- ---- a piece
@@ -150,10 +147,6 @@ spread l v a p d c D h k = le-of-mul-le-mul-right {k = d} (le-trans (go (a * l) 
 
     turned : (M : ℕ) → M * (d * c * l) + p * d ≡ (M * (c * l) + p) * d
     turned M = omega arith
-
-rounded-size : (s : Bool) (a p n M : ℕ) → p ≤ M → n ≤ M → over s a + n ≡ p + under s a → a ≤ M
-rounded-size true a p n M h k e = omega arith
-rounded-size false a p n M h k e = omega arith
 
 module _ (x y : Float) (h : Within 25 x) (k : Length y) (w : Within 10 y) where
   -- k lengths, where k is less than one away from x / y

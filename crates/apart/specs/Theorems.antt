@@ -1,11 +1,10 @@
 -- Request [12], of every fill that is accepted: "before points are turned back, neighbouring points of one section lie no farther apart than len + 0.001". Assumes nothing.
-use mathlib.Core.Path.{_≡_, refl, sym, ap, _∙_}
+use mathlib.Core.Path.{_≡_, refl, ap}
 use mathlib.Core.Bool.{Bool, true}
 use mathlib.Core.List.{List, [], _∷_, map}
 use Prim.Native.Nat.{ℕ, _+_, _<_, _≤_}
 use lib.Dec.{lit≤}
 use lib.Ieee.{Float}
-use Rattle.numbers.specs.Value.{IsWhole}
 use Rattle.numbers.specs.Laws.{within-more}
 use Rattle.seqs.specs.Lists.{each, upto, All}
 use Rattle.seqs.specs.Upto.{upto-all}

@@ -1,11 +1,11 @@
 -- A float's value in units with its sign taken apart: it is `hi x - lo x`. What an operation gives, in these, with an error in units. Assumes nothing.
-use mathlib.Core.Path.{_≡_, refl, sym, ap, _∙_, subst}
+use mathlib.Core.Path.{_≡_, sym, ap, _∙_}
 use mathlib.Core.Bool.{Bool, true, false}
 use Prim.Native.Nat.{ℕ, suc, _+_, _*_, _^_, _≤_, _<_}
-use native.Mathlib.Nat.{zero-mul, mul-pos, mul-le-mul, mul-le-mul-left, mul-le-mul-right, le-of-mul-le-mul-right, le-trans, le-of-eq}
+use native.Mathlib.Nat.{zero-mul, mul-pos, mul-le-mul, mul-le-mul-right, le-of-mul-le-mul-right, le-trans, le-of-eq}
 use native.Mathlib.Omega.{arith}
 use lib.Dec.{T}
-use lib.Pow.{pow-pos, pow-add}
+use lib.Pow.{pow-add}
 use lib.Ieee.{Float, nan, inf, fin, binary64, up, down, round, fits}
 use lib.Ieee.Positive.{den, den-pos}
 use Rattle.numbers.specs.Num.{_⊕_, _⊖_, _⊗_}
@@ -17,6 +17,7 @@ use Rattle.numbers.specs.Rounded.{Rounded, add-rounded, sub-rounded, mul-rounde
 use Rattle.numbers.specs.Bounds.{within-finite, within-round}
 use Rattle.apart.specs.Errors.{Close, round-sign, round-close}
 
+-- the units of x where it is above zero, and where it is below
 unfoldable pub hi : Float → ℕ
 hi x = over (negative x) (unitsOf x)
 
@@ -71,15 +72,15 @@ sized l u a c M E k h g =
     let x : a * l + 2 ^ 52 * c ≤ 2 ^ 52 * (c * E) = omega (arith, mul-le-mul-right l h, mul-le-mul-right c g) in
     (omega (arith, k .most), omega (arith, k .least))
 
-rounded-size : (s : Bool) (a p n c m : ℕ) → p ≤ 2 ^ m * c → n ≤ 2 ^ m * c → over s a + n ≡ p + under s a → a ≤ 2 ^ m * c
-rounded-size true a p n c m h k e = omega arith
-rounded-size false a p n c m h k e = omega arith
+pub rounded-size : (s : Bool) (a p n M : ℕ) → p ≤ M → n ≤ M → over s a + n ≡ p + under s a → a ≤ M
+rounded-size true a p n M h k e = omega arith
+rounded-size false a p n M h k e = omega arith
 
 pub within-rounded : {v : Float} {p n c : ℕ} (m : ℕ) → m ≤ 1000 → 0 < c → Rounded v p n c → p ≤ 2 ^ m * c → n ≤ 2 ^ m * c → Within m v
-within-rounded {v} {p} {n} {c} m l C r h k = rw (r .is) (within-round m (r .sign) (r .size) c l C (rounded-size (r .sign) (r .size) p n c m h k (r .value)))
+within-rounded {v} {p} {n} {c} m l C r h k = rw (r .is) (within-round m (r .sign) (r .size) c l C (rounded-size (r .sign) (r .size) p n (2 ^ m * c) h k (r .value)))
 
 pub rounded-close : {v : Float} {p n c : ℕ} (m : ℕ) → m ≤ 1000 → 0 < c → (r : Rounded v p n c) → p ≤ 2 ^ m * c → n ≤ 2 ^ m * c → Close (2 ^ 1074) (unitsOf v) (r .size) c
-rounded-close {v} {p} {n} {c} m l C r h k = rw (r .is) (round-close (r .size) c m C l (rounded-size (r .sign) (r .size) p n c m h k (r .value)) (r .sign))
+rounded-close {v} {p} {n} {c} m l C r h k = rw (r .is) (round-close (r .size) c m C l (rounded-size (r .sign) (r .size) p n (2 ^ m * c) h k (r .value)) (r .sign))
 
 signed : (t s : Bool) (l u a p n c E : ℕ) → t ≡ s → over s a + n ≡ p + under s a → (u * c ≤ a * l + c * E) × (a * l ≤ u * c + c * E) → (over t u * c + n * l ≤ p * l + under t u * c + c * E) × (p * l + under t u * c ≤ over t u * c + n * l + c * E)
 signed t true l u a p n c E x y h = rw x (omega (arith, ap (λ (z : ℕ). z * l) y, h .0, h .1), omega (arith, ap (λ (z : ℕ). z * l) y, h .0, h .1))
@@ -90,7 +91,7 @@ unfolding hi lo
 rounded-near {v} {p} {n} {c} m E l C r h k g =
     let a = r .size in
     let s = r .sign in
-    let b = rounded-size s a p n c m h k (r .value) in
+    let b = rounded-size s a p n (2 ^ m * c) h k (r .value) in
     let z = sized (2 ^ 1074) (unitsOf (round binary64 s a c)) a c (2 ^ m) E (round-close a c m C l b s) b g in
     let w = signed (negative (round binary64 s a c)) s (2 ^ 1074) (unitsOf (round binary64 s a c)) a p n c E (round-sign a c m C l b s) (r .value) z in
     rw (r .is) (record { most = w .0; least = w .1 })
@@ -160,9 +161,6 @@ module _ (a b E : ℕ) (x y : Float) (f : T (fits binary64 x)) (g : T (fits bina
     where
       go : (A B : ℕ) → A * d * (B * c) ≡ A * B * (d * c)
       go A B = omega arith
-
-  pub mul-within : Within (a + b) (x ⊗ y)
-  mul-within = within-rounded (a + b) l (mul-pos (den-pos x) (den-pos y)) mul-up (times-le (plus x) (den x) (plus y) (den y) (parts a x h .0) (parts b y k .0)) (times-le (less x) (den x) (plus y) (den y) (parts a x h .1) (parts b y k .0))
 
   pub mul-about : Near (x ⊗ y) (hi x * hi y) (lo x * hi y) (2 ^ 1074) (2 ^ 1074 * E)
   mul-about =

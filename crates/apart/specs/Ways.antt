@@ -1,15 +1,15 @@
 -- A way from p to q cut in n: where each step ends, and that no step is longer than asked. Assumes nothing.
 use mathlib.Core.Path.{_≡_, refl, sym, ap, _∙_, subst}
-use mathlib.Core.Bool.{Bool, true, false, _&&_}
+use mathlib.Core.Bool.{Bool, true, false}
 use mathlib.Core.Logic.{inl, inr}
-use mathlib.Core.List.{List, [], _∷_, _++_, map}
+use mathlib.Core.List.{List, _∷_, _++_, map}
 use Prim.Native.Nat.{ℕ, zero, suc, _+_, _-_, _*_, _^_, _≤_, _<_}
 use native.Mathlib.Nat.{zero-mul, mul-pos, mul-one, mul-le-mul-right, le-of-mul-le-mul-right, eq-of-mul-eq-mul-right, le-trans, le-of-eq}
 use native.Mathlib.Omega.{arith}
-use lib.Dec.{T, leb, le→leb, lit≤, lit<}
+use lib.Dec.{T, le→leb, lit≤}
 use lib.Pow.{pow-pos}
 use lib.IntN.{pos}
-use lib.Ieee.{Float, nan, inf, fin, binary64, up, down, round, ofInt, fits, le, lt}
+use lib.Ieee.{Float, nan, inf, fin, binary64, up, round, ofInt, fits, le, lt}
 use lib.Ieee.Back.{round-whole}
 use lib.Ieee.Bits.{is-true}
 use lib.Ieee.Exact.{HasValue}
@@ -21,13 +21,13 @@ use Rattle.numbers.specs.Value.{unitsOf, Within, IsWhole}
 use Rattle.numbers.specs.Fraction.{plus, less, cross→lt, cross→le}
 use Rattle.numbers.specs.Rounded.{Rounded}
 use Rattle.numbers.specs.Monotone.{at-least-zero, div-rounded}
-use Rattle.numbers.specs.Laws.{within-finite, within-more, within-sub, within-add, within-mul, within-div, add-fits, sub-fits, mul-fits, div-fits, div-up, holds}
+use Rattle.numbers.specs.Laws.{within-finite, within-more, within-sub, within-add, within-mul, sub-fits, mul-fits, div-fits, div-up}
 use Rattle.seqs.specs.Lists.{upto}
 use Rattle.geom.specs.declared.point.P.{P}
 use Rattle.geom.specs.Point.{lerp, dist}
 use Rattle.geom.specs.Steps.{along}
 use Rattle.apart.specs.Apart.{gap, noFarther, neighbours}
-use Rattle.apart.specs.Values.{hi, lo, lo-exact, whole, units-most, Near, About, within-rounded, rounded-near, add-about, sub-about, mul-about}
+use Rattle.apart.specs.Values.{hi, lo, lo-exact, whole, units-most, within-rounded, rounded-near, add-about, sub-about, mul-about}
 use Rattle.apart.specs.Gaps.{Differ, gap-is}
 use Rattle.apart.specs.Distances.{Length, Point, apart}
 use Rattle.apart.specs.Laws.{At, part-most, part-least, sum-most, sum-least, next-at, prev-at, ends, thousandths}
