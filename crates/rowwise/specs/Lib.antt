@@ -1,3 +1,5 @@
--- What the contracts of `rowwise` cite (Nearest, Found), and what is proved of it.
+-- What the contracts of `rowwise` cite (Nearest, Rows), and what is proved of it.
 pub mod Nearest
 pub mod NearestLaws
+pub mod Rows
+pub mod RowLaws

@@ -25,14 +25,14 @@ use Rattle.rowwise.specs.Nearest.{noneYet, nearer, meet, behind, sidesBe
 module _ (P : Float → Type 0) where
   add-all : (x : Float) (d : ℤ) (l : List (Float × ℤ)) → P x → All (λ c. P (c .0)) l → All (λ c. P (c .0)) (add x d l)
   add-all x d [] h k = (h, tt)
-  add-all x d (c ∷ l) h k = go (before x (c .0)) (before (c .0) x)
+  add-all x d (c ∷ l) h k = go (before x (c .0)) (before (c .0) x) (add-all x d l h (k .1))
     where
-      go : (s t : Bool) → All (λ c. P (c .0)) (cond s ((x, d) ∷ c ∷ l) (cond t (c ∷ add x d l) ((x, d +ℤ c .1) ∷ l)))
-      go true t = (h, k)
-      go false true = (k .0, add-all x d l h (k .1))
-      go false false = (h, k .1)
+      go : (s t : Bool) → All (λ c. P (c .0)) (add x d l) → All (λ c. P (c .0)) (cond s ((x, d) ∷ c ∷ l) (cond t (c ∷ add x d l) ((x, d +ℤ c .1) ∷ l)))
+      go true t r = (h, k)
+      go false true r = (k .0, r)
+      go false false r = (h, k .1)
 
-  gathered-all : (cs : List (Float × ℤ)) → All (λ c. P (c .0)) cs → All (λ c. P (c .0)) (gathered cs)
+  pub gathered-all : (cs : List (Float × ℤ)) → All (λ c. P (c .0)) cs → All (λ c. P (c .0)) (gathered cs)
   gathered-all [] h = tt
   gathered-all (c ∷ cs) h = add-all (c .0) (c .1) (gathered cs) (h .0) (gathered-all cs (h .1))
 
@@ -194,39 +194,46 @@ module _ (q : Ask) where
       go false true = h
       go false false = omega arith
 
-  -- no side is passed twice
-  scan-count : (m : Crossing) (cs : List (Float × ℤ)) → Number (m .x) → Numbers cs → q .at ≤ m .next
-      → fold step m cs .next + length (sift (past (fold step m cs .x)) cs) ≤ cond (before (fold step m cs .x) (m .x)) (q .at) (m .next) + length cs
+  step-new : (c : Float × ℤ) (m : Crossing) → before (c .0) (m .x) ≡ true → step c m ≡ record { x = c .0; dir = c .1; next = q .at + 1 }
+  step-new c m p = rw p
+
+  step-old : (c : Float × ℤ) (m : Crossing) → before (c .0) (m .x) ≡ false → before (m .x) (c .0) ≡ true → step c m ≡ m
+  step-old c m p s = rw (p, s)
+
+  step-one : (c : Float × ℤ) (m : Crossing) → c .0 ≡ m .x → step c m ≡ record { x = m .x; dir = m .dir +ℤ c .1; next = m .next + 1 }
+  step-one c m e = rw (e, not-self (m .x))
+
+  -- no side is passed twice: n of the crossings cs, to the m's
+  abbrev Counted : Crossing → List (Float × ℤ) → Crossing → Type 0
+  Counted m cs r = r .next + length (sift (past (r .x)) cs) ≤ cond (before (r .x) (m .x)) (q .at) (m .next) + length cs
+
+  scan-count : (m : Crossing) (cs : List (Float × ℤ)) → Number (m .x) → Numbers cs → q .at ≤ m .next → Counted m cs (fold step m cs)
   scan-count m [] h k l = rw (not-self (m .x)) (omega arith)
   scan-count m (c ∷ cs) h k l = elim (rel (c .0) (m .x) (k .0) h) [
     | less p s ↦
         let n : Crossing = record { x = c .0; dir = c .1; next = q .at + 1 } in
-        let r = fold step n cs in
-        let ih = scan-count n cs (k .0) (k .1) (omega arith) in
-        rw p
-        (elim (either (before (r .x) (c .0))) [
-          | inl t ↦ rw (t, through (r .x) (c .0) (m .x) t p) (omega (arith, rw t at ih))
-          | inr t ↦ rw t (omega (arith, rw t at ih, low (before (r .x) (m .x))))
-        ])
-    | more p s ↦ rw (p, s) (more-one (before (fold step m cs .x) (c .0)) (sift (past (fold step m cs .x)) cs) (scan-count m cs h (k .1) l))
+        subst (λ n. Counted m (c ∷ cs) (fold step n cs)) (sym (step-new c m p)) (new (fold step n cs) p (scan-count n cs (k .0) (k .1) (omega arith)))
+    | more p s ↦ subst (λ n. Counted m (c ∷ cs) (fold step n cs)) (sym (step-old c m p s)) (old (fold step m cs) (scan-count m cs h (k .1) l))
     | same e ↦
         let n : Crossing = record { x = m .x; dir = m .dir +ℤ c .1; next = m .next + 1 } in
-        let r = fold step n cs in
-        let ih = scan-count n cs h (k .1) (omega arith) in
-        rw (e, not-self (m .x))
-        (elim (either (before (r .x) (m .x))) [
-          | inl t ↦ rw t (omega (arith, rw t at ih))
-          | inr t ↦ rw t (omega (arith, rw t at ih))
-        ])
+        subst (λ n. Counted m (c ∷ cs) (fold step n cs)) (sym (step-one c m e)) (one (fold step n cs) e (scan-count n cs h (k .1) (omega arith)))
   ]
     where
       low : (b : Bool) → q .at ≤ cond b (q .at) (m .next)
       low true = omega arith
       low false = l
 
-      more-one : {n z : ℕ} (b : Bool) (s : List (Float × ℤ)) → n + length s ≤ z + length cs → n + length (keepIf b c s) ≤ z + suc (length cs)
-      more-one true s h = omega arith
-      more-one false s h = omega arith
+      new : (r : Crossing) → before (c .0) (m .x) ≡ true → Counted (record { x = c .0; dir = c .1; next = q .at + 1 }) cs r → Counted m (c ∷ cs) r
+      new r p h = elim (either (before (r .x) (c .0))) [
+        | inl t ↦ rw (t, through (r .x) (c .0) (m .x) t p) (omega (arith, rw t at h))
+        | inr t ↦ rw t (omega (arith, rw t at h, low (before (r .x) (m .x))))
+      ]
+
+      old : (r : Crossing) → Counted m cs r → Counted m (c ∷ cs) r
+      old r h = elim (either (before (r .x) (c .0))) [ inl t ↦ rw t (omega (arith, h)) | inr t ↦ rw t (omega (arith, h)) ]
+
+      one : (r : Crossing) → c .0 ≡ m .x → Counted (record { x = m .x; dir = m .dir +ℤ c .1; next = m .next + 1 }) cs r → Counted m (c ∷ cs) r
+      one r e h = elim (either (before (r .x) (m .x))) [ inl t ↦ rw (e, t) (omega (arith, rw t at h)) | inr t ↦ rw (e, t) (omega (arith, rw t at h)) ]
 
 -- ---- the crossings behind one
 
@@ -272,7 +279,7 @@ module _ (q : Ask) (es : List Edge) (clear : Clear (q .y) es) {r : Crossing} (is
       go [] e h = is-behind ∙ ap gathered e
       go (c ∷ l) e h =
           let n : Crossing = record { x = c .0; dir = c .1; next = q .at + 1 } in
-          let s : r ≡ fold (step q) n l = rw (h .0 .2) at (scanned ∙ ap (fold (step q) (noneYet (q .at))) e) in
+          let s : r ≡ fold (step q) n l = scanned ∙ ap (fold (step q) (noneYet (q .at))) e ∙ ap (λ n. fold (step q) n l) (step-new q c (noneYet (q .at)) (h .0 .2)) in
           absurd (omega (arith, scan-on q n l (omega arith), ap (λ (m : Crossing). m .next) s))
 
   next-is : q .at < r .next → sift (past (q .after)) (gathered cs) ≡ (r .x, r .dir) ∷ rest (gathered (sift (past (q .after)) cs))
@@ -282,9 +289,9 @@ module _ (q : Ask) (es : List Edge) (clear : Clear (q .y) es) {r : Crossing} (is
       go [] e h = absurd (omega (arith, z, ap (λ (m : Crossing). m .next) (scanned ∙ ap (fold (step q) (noneYet (q .at))) e)))
       go (c ∷ l) e h =
           let n : Crossing = record { x = c .0; dir = c .1; next = q .at + 1 } in
-          let s : r ≡ fold (step q) n l = rw (h .0 .2) at (scanned ∙ ap (fold (step q) (noneYet (q .at))) e) in
+          let s : r ≡ fold (step q) n l = scanned ∙ ap (fold (step q) (noneYet (q .at))) e ∙ ap (λ n. fold (step q) n l) (step-new q c (noneYet (q .at)) (h .0 .2)) in
           let f : (r .x, r .dir) ≡ first (gathered (c ∷ l)) = ap (shown q) s ∙ scan-first q n l (h .0 .0) (h .0 .2) (h .1) ∙ sym (first-add (c .0) (c .1) (gathered l) (h .0 .2)) in
-          sym (gathered-sift (q .after) cs numbers) ∙ ap gathered e ∙ some-first (c .0) (c .1) (gathered l) ∙ (λ i. f (~ i) ∷ rest (gathered (e (~ i))))
+          sym (gathered-sift (q .after) cs numbers) ∙ ap gathered e ∙ some-first (c .0) (c .1) (gathered l) ∙ sym (λ i. f i ∷ rest (gathered (e i)))
 
   -- a side is passed: it is the next, and behind it there are fewer sides
   module _ (z : q .at < r .next) where
