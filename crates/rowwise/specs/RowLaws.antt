@@ -139,21 +139,12 @@ module _ (outline : List (List P)) (g : Settings) (cyc : ℕ) (ok : Checked outl
 
 -- ---- the rows one after the other
 
-module _ (corners : List Float) (ends : List ℕ) (t : Plan) (p : Passed corners ends t) where
+module _ (corners : List Float) (ends : List ℕ) (t : Plan) where
   abbrev all : List Edge
   all = edges (t .g) (rings corners ends)
 
   abbrev pub rowsFrom : ℕ → List (List Piece)
   rowsFrom r = map (piecesOf (t .rule) (t .g) all) (numbers (t .rows) (t .upward) r)
-
-  ok : Checked (rings corners ends) (t .g) (t .stagger)
-  ok = checked corners ends (t .g) (t .stagger) (p .accepted)
-
-  met-is : numbers (t .rows) (t .upward) 0 ≡ met (t .upward) (rowNumbers (t .g) all)
-  met-is = rw (p .rows) (numbers-met (t .g) all (t .upward) (ok .rows))
-
-  rows-alone : rowsFrom 0 ≡ alone corners ends t
-  rows-alone = ap (map (piecesOf (t .rule) (t .g) all)) met-is
 
   -- of the rows, those from row r on are left
   pub record Rowing (d₀ d : List Float) (a₀ a : List ℕ) (i r : ℕ) : Type 0 where
@@ -163,65 +154,75 @@ module _ (corners : List Float) (ends : List ℕ) (t : Plan) (p : Passed corners
     pub pieces : Adding place pieceBlock d₀ d 0 i (each (λ l. l) (rowsFrom r)) (each (λ l. l) (rowsFrom 0))
     pub counts : Run a₀ a 0 i (rowCounts r (rowsFrom r)) (rowCounts 0 (rowsFrom 0))
 
-  pub rowing-start : (d : List Float) (a : List ℕ) → Rowing d d a a 0 0
-  rowing-start d a = record {
-    le = omega arith;
-    bound = omega arith;
-    fair = rw met-is (met-fair (rings corners ends) (t .g) (t .stagger) ok (t .upward));
-    pieces = adding-start place pieceBlock d 0 (each (λ l. l) (rowsFrom 0));
-    counts = run-start a (rowCounts 0 (rowsFrom 0)) 0;
-  }
+  module _ (p : Passed corners ends t) where
+    ok : Checked (rings corners ends) (t .g) (t .stagger)
+    ok = checked corners ends (t .g) (t .stagger) (p .accepted)
 
-  module _ {d₀ d : List Float} {a₀ a : List ℕ} {i r : ℕ} (v : Rowing d₀ d a₀ a i r) where
-    pub rowing-end : t .rows .n ≤ r → t .rows .n ≤ 4096 → Laid i (alone corners ends t) d₀ d a₀ a
-    unfolding rowCounts
-    rowing-end h few =
-        let z : rowsFrom r ≡ [] = ap (map (piecesOf (t .rule) (t .g) all)) (numbers-none (t .rows) (t .upward) r h) in
-        subst (λ rows. Laid i rows d₀ d a₀ a) rows-alone
-        (record {
-          few = omega (arith, v .bound, v .le);
-          pieces = adding-end place pieceBlock (adding-at place pieceBlock (ap (each (λ l. l)) z) (v .pieces));
-          counts = run-end (run-at (ap (rowCounts r) z) (v .counts));
-        })
+    met-is : numbers (t .rows) (t .upward) 0 ≡ met (t .upward) (rowNumbers (t .g) all)
+    met-is = rw (p .rows) (numbers-met (t .g) all (t .upward) (ok .rows))
 
-    module _ (h : r < t .rows .n) where
-      k : ℤ
-      k = rowNumber (t .rows) (t .upward) r
+    rows-alone : rowsFrom 0 ≡ alone corners ends t
+    rows-alone = ap (map (piecesOf (t .rule) (t .g) all)) met-is
 
-      row-fair : Fair k
-      unfolding k
-      row-fair = (rw (numbers-next (t .rows) (t .upward) r h) at (v .fair)) .0
+    pub rowing-start : (d : List Float) (a : List ℕ) → Rowing d d a a 0 0
+    rowing-start d a = record {
+      le = omega arith;
+      bound = omega arith;
+      fair = rw met-is (met-fair (rings corners ends) (t .g) (t .stagger) ok (t .upward));
+      pieces = adding-start place pieceBlock d 0 (each (λ l. l) (rowsFrom 0));
+      counts = run-start a (rowCounts 0 (rowsFrom 0)) 0;
+    }
 
-      pub rowing-clear : {c : Cut} → c ≡ cutAt (t .rule) (t .g) (rowNumber (t .rows) (t .upward) r) → Clear (c .y) all
-      unfolding k cutAt
-      rowing-clear e = rw e (row-clear (rings corners ends) (t .g) (t .stagger) ok k row-fair)
+    module _ {d₀ d : List Float} {a₀ a : List ℕ} {i r : ℕ} (v : Rowing d₀ d a₀ a i r) where
+      pub rowing-end : t .rows .n ≤ r → t .rows .n ≤ 4096 → Laid i (alone corners ends t) d₀ d a₀ a
+      unfolding rowCounts
+      rowing-end h few =
+          let z : rowsFrom r ≡ [] = ap (map (piecesOf (t .rule) (t .g) all)) (numbers-none (t .rows) (t .upward) r h) in
+          subst (λ rows. Laid i rows d₀ d a₀ a) rows-alone
+          (record {
+            few = omega (arith, v .bound, v .le);
+            pieces = adding-end place pieceBlock (adding-at place pieceBlock (ap (each (λ l. l)) z) (v .pieces));
+            counts = run-end (run-at (ap (rowCounts r) z) (v .counts));
+          })
 
-      module _ {d′ : List Float} {a′ : List ℕ} {m : ℕ} {c : Cut} (cut : c ≡ cutAt (t .rule) (t .g) (rowNumber (t .rows) (t .upward) r)) (row : Putting (c .y) (rowCuts c all) d d′ i m) (marks : Wrote a a′ i (replicate (m - i) r)) where
-        these : List Piece
-        these = piecesOf (t .rule) (t .g) all k
+      module _ (h : r < t .rows .n) where
+        k : ℤ
+        k = rowNumber (t .rows) (t .upward) r
 
-        added : Added place pieceBlock d d′ i m these
-        unfolding these k cutAt
-        added = rw (row-pieces (rings corners ends) (t .g) (t .stagger) ok k row-fair (t .rule)) at (added-pieces (t .rule) (t .g) k place (rowCuts (cutAt (t .rule) (t .g) k) all) (rw cut at (row .added)))
+        row-fair : Fair k
+        unfolding k
+        row-fair = (rw (numbers-next (t .rows) (t .upward) r h) at (v .fair)) .0
 
-        left : rowsFrom r ≡ these ∷ rowsFrom (r + 1)
-        unfolding these k
-        left = ap (map (piecesOf (t .rule) (t .g) all)) (numbers-next (t .rows) (t .upward) r h)
+        pub rowing-clear : {c : Cut} → c ≡ cutAt (t .rule) (t .g) (rowNumber (t .rows) (t .upward) r) → Clear (c .y) all
+        unfolding k cutAt
+        rowing-clear e = rw e (row-clear (rings corners ends) (t .g) (t .stagger) ok k row-fair)
 
-        pub rowing-step : Rowing d₀ d′ a₀ a′ m (r + 1)
-        unfolding rowCounts
-        rowing-step =
-            let n : m ≡ i + length these = added .count in
-            let gap : m - i ≡ length these = omega arith in
-            let wrote : Wrote a a′ i (replicate (length these) r) = rw gap at marks in
-            let j : i + length (replicate (length these) r) ≡ m = ap (λ q. i + q) (length-replicate (length these) r) ∙ sym n in
-            record {
-              le = omega arith;
-              bound = omega (arith, v .bound, row .few);
-              fair = (rw (numbers-next (t .rows) (t .upward) r h) at (v .fair)) .1;
-              pieces = adding-step place pieceBlock 3 (λ p. refl) (λ n m. omega arith) these (each (λ l. l) (rowsFrom (r + 1))) (adding-at place pieceBlock (ap (each (λ l. l)) left) (v .pieces)) added;
-              counts = subst (λ q. Run a₀ a′ 0 q (rowCounts (r + 1) (rowsFrom (r + 1))) (rowCounts 0 (rowsFrom 0))) j (run-step (replicate (length these) r) (rowCounts (r + 1) (rowsFrom (r + 1))) (run-at (ap (rowCounts r) left) (v .counts)) wrote);
-            }
+        module _ {d′ : List Float} {a′ : List ℕ} {m : ℕ} {c : Cut} (cut : c ≡ cutAt (t .rule) (t .g) (rowNumber (t .rows) (t .upward) r)) (row : Putting (c .y) (rowCuts c all) d d′ i m) (marks : Wrote a a′ i (replicate (m - i) r)) where
+          these : List Piece
+          these = piecesOf (t .rule) (t .g) all k
+
+          added : Added place pieceBlock d d′ i m these
+          unfolding these k cutAt
+          added = rw (row-pieces (rings corners ends) (t .g) (t .stagger) ok k row-fair (t .rule)) at (added-pieces (t .rule) (t .g) k place (rowCuts (cutAt (t .rule) (t .g) k) all) (rw cut at (row .added)))
+
+          left : rowsFrom r ≡ these ∷ rowsFrom (r + 1)
+          unfolding these k
+          left = ap (map (piecesOf (t .rule) (t .g) all)) (numbers-next (t .rows) (t .upward) r h)
+
+          pub rowing-step : Rowing d₀ d′ a₀ a′ m (r + 1)
+          unfolding rowCounts
+          rowing-step =
+              let n : m ≡ i + length these = added .count in
+              let gap : m - i ≡ length these = omega arith in
+              let wrote : Wrote a a′ i (replicate (length these) r) = rw gap at marks in
+              let j : i + length (replicate (length these) r) ≡ m = ap (λ q. i + q) (length-replicate (length these) r) ∙ sym n in
+              record {
+                le = omega arith;
+                bound = omega (arith, v .bound, row .few);
+                fair = (rw (numbers-next (t .rows) (t .upward) r h) at (v .fair)) .1;
+                pieces = adding-step place pieceBlock 3 (λ p. refl) (λ n m. omega arith) these (each (λ l. l) (rowsFrom (r + 1))) (adding-at place pieceBlock (ap (each (λ l. l)) left) (v .pieces)) added;
+                counts = subst (λ q. Run a₀ a′ 0 q (rowCounts (r + 1) (rowsFrom (r + 1))) (rowCounts 0 (rowsFrom 0))) j (run-step (replicate (length these) r) (rowCounts (r + 1) (rowsFrom (r + 1))) (run-at (ap (rowCounts r) left) (v .counts)) wrote);
+              }
 
 -- ---- the need
 
