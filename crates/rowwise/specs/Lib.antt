@@ -3,3 +3,4 @@ pub mod Nearest
 pub mod NearestLaws
 pub mod Rows
 pub mod RowLaws
+pub mod Examples

@@ -9,6 +9,7 @@ pub mod geom;
 mod jobs;
 pub mod leaves;
 pub mod patterns;
+mod plain;
 mod records;
 mod salvage;
 pub mod satin;
@@ -544,6 +545,7 @@ pub fn groups() -> Vec<Group> {
                 .flatten()
                 .collect(),
         ),
+        group("plain", plain::functions()),
         group("mending", salvage::functions()),
     ]
 }
