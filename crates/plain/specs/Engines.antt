@@ -1,5 +1,5 @@
 -- Request [8]: the plain engine "gives the same row list, sections and stitches as the sweep on every accepted input", and "may accept where the sweep gives WORK". Assumes nothing.
-use Prim.Native.Nat.{ℕ, zero, suc, _*_, _+_, _≤_}
+use Prim.Native.Nat.{ℕ, zero, suc, _≤_}
 use native.Mathlib.Omega.{arith}
 use mathlib.Core.Path.{_≡_, refl, sym, ap, _∙_}
 use mathlib.Core.Bool.{Bool, true, false, not, _||_, cond}
@@ -9,7 +9,7 @@ use lib.IntN.{ℤ}
 use lib.ListN.{length}
 use lib.Ieee.{Float}
 use borrow.Author.Tests.{le-ltb, ltb-false}
-use Rattle.refusal.specs.Refusal.{DONE, WORK, ROOM}
+use Rattle.refusal.specs.Refusal.{DONE, WORK, ROOM, unless}
 use Rattle.seqs.specs.Tests.{clash}
 use Rattle.geom.specs.Outline.{rings}
 use Rattle.outlines.specs.declared.rule.FillRule.{FillRule}
@@ -17,6 +17,9 @@ use Rattle.rules.specs.declared.Settings.{Settings}
 use Rattle.rules.specs.Fill.{edges, rowList, tatami, gate, needFloats, needWholes, roomed, refusal}
 use Rattle.rules.specs.Calls.{sewnFits, listFits, tatamiAnswer, rowListAnswer}
 use Rattle.rules.specs.CallLaws.{gate-through, gate-stop}
+use Rattle.rules.specs.Accepted.{Accepted}
+use Rattle.fillroom.specs.Room.{roomOf}
+use Rattle.fillroom.specs.Enough.{enough}
 use Rattle.rowwise.specs.Rows.{plainFloats, plainWholes}
 use Rattle.tatami.specs.Left.{Left, leftBy, tatamiLeft, LeftList, leftListBy, rowListLeft}
 use Rattle.plain.specs.Plain.{plainRoomed, plainRefusal, plainTatamiAnswer, plainTatamiLeft, plainRowListAnswer, plainRowListLeft}
@@ -144,3 +147,16 @@ module _ (corners : List Float) (ends : List ℕ) (rule : FillRule) (g : Setting
       let q = answers-agree (length floats) (length wholes) (length floats′) (length wholes′) (listFits (length es) (length ys) (length rows) (length sections)) h k in
       let by : ℕ → LeftList = λ n. leftListBy n es ys rows sections floats wholes in
       (ap (λ n. by n .said) q, ap (λ n. by n .ys) q, ap (λ n. by n .rows) q, ap (λ n. by n .sections) q)
+
+-- ---- room that is always enough
+
+-- what `fill_room` says is enough for both
+module _ (corners : List Float) (ends : List ℕ) (g : Settings) (stagger : ℕ) (accepted : Accepted corners ends g stagger) where
+  not-work : (fits : Bool) → unless ROOM fits ≡ WORK → ⊥
+  not-work true e = omega arith
+  not-work false e = omega arith
+
+  pub room-for-both : (rule : FillRule) (bottomUp fits : Bool) → plainRefusal corners ends rule g stagger bottomUp (roomOf corners ends g stagger .floats) (roomOf corners ends g stagger .wholes) fits ≡ unless ROOM fits
+  room-for-both rule bottomUp fits =
+      let e = enough corners ends g stagger accepted rule bottomUp fits in
+      same-answer corners ends rule g stagger bottomUp (roomOf corners ends g stagger .floats) (roomOf corners ends g stagger .wholes) fits (λ w. not-work fits (sym e ∙ w)) ∙ e

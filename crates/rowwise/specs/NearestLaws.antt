@@ -5,20 +5,40 @@ use mathlib.Core.Path.{_≡_, refl, sym, ap, _∙_, subst}
 use mathlib.Core.Bool.{Bool, true, false, cond}
 use mathlib.Core.Logic.{inl, inr}
 use mathlib.Core.List.{List, [], _∷_, map}
-use lib.IntN.{ℤ, pos, _+ℤ_, +ℤ-assoc, +ℤ-comm}
+use lib.IntN.{ℤ, pos, negsuc, _+ℤ_, +ℤ-assoc, +ℤ-comm}
 use lib.ListN.{length}
-use lib.Ieee.{Float, inf, binary64, fits, isNan}
+use lib.Ieee.{Float, inf, binary64, fits, le, lt, isNan}
+use Rattle.numbers.specs.Num.{_⊕_, _⊖_, _⊗_}
 use Rattle.numbers.specs.Order.{before}
 use Rattle.seqs.specs.Lists.{keepIf, sift, fold, All, Sorted}
 use Rattle.seqs.specs.Tests.{either, clash}
 use Rattle.seqs.specs.All.{all-map, all-sift, sorted-sift}
 use Rattle.seqs.specs.Sift.{sift-pass, sift-all, sift-absorb}
 use Rattle.rules.specs.declared.Edge.{Edge}
+use Rattle.rules.specs.Fill.{dir}
 use Rattle.rules.specs.Gathered.{Number, Numbers, Rel, less, more, same, rel, not-self, one-way, through, add, gathered}
 use Rattle.rules.specs.Drawn.{crosses, crossAt, unsorted}
+use Rattle.edges.specs.declared.side.KeptSide.{KeptSide}
+use Rattle.edges.specs.declared.side.KeptSide.the-variants.{Kept}
+use Rattle.edges.specs.Table.{found}
 use Rattle.sweep.specs.declared.piece.Crossing.{Crossing}
 use Rattle.rowwise.specs.declared.crossing.Ask.{Ask}
 use Rattle.rowwise.specs.Nearest.{noneYet, nearer, meet, behind, sidesBehind, Inner, Clear}
+
+-- ---- a side of a ring
+
+module _ (q : Ask) (m : Crossing) (e : Edge) {s : KeptSide} (is : s ≡ Kept e) where
+  -- it crosses the row
+  pub side-meets : {r : Crossing} → le (e .y0) (q .y) ≡ true → lt (q .y) (e .y1) ≡ true → r ≡ nearer q (e .x0 ⊕ (q .y ⊖ e .y0) ⊗ e .dxdy, cond (e .falls) (pos 1) (negsuc 0)) m → r ≡ fold (meet q) m (found s)
+  unfolding dir
+  side-meets a b h = rw (is, a, b) h
+
+  -- it has ended, or has not begun
+  pub side-ended : le (e .y0) (q .y) ≡ true → lt (q .y) (e .y1) ≡ false → m ≡ fold (meet q) m (found s)
+  side-ended a b = rw (is, a, b)
+
+  pub side-later : le (e .y0) (q .y) ≡ false → m ≡ fold (meet q) m (found s)
+  side-later a = rw (is, a)
 
 -- ---- gathered crossings rise strictly
 
