@@ -243,7 +243,10 @@ pub mod stroke {
 
 /// The fill.
 pub mod fill {
-    use super::raw::{beahcerot_fill_job, beahcerot_row_list, beahcerot_tatami};
+    use super::raw::{
+        beahcerot_fill_job, beahcerot_plain_row_list, beahcerot_plain_tatami, beahcerot_row_list,
+        beahcerot_tatami,
+    };
     use crate::inputs::fills::Fill;
 
     /// What a fill is lent to work in.
@@ -301,6 +304,38 @@ pub mod fill {
         }
     }
 
+    /// The same by the plain engine.
+    pub fn plain_tatami(f: &Fill, work: Work, out: Sewn) -> u64 {
+        let (c, e) = (&f.outline.corners, &f.outline.ends);
+        unsafe {
+            beahcerot_plain_tatami(
+                c.as_ptr(),
+                c.len(),
+                e.as_ptr().cast(),
+                e.len(),
+                f.rule,
+                f.spacing,
+                f.len,
+                f.inset,
+                f.pull,
+                f.cosine,
+                f.sine,
+                f.stagger,
+                f.bottom_up,
+                work.floats.as_mut_ptr(),
+                work.floats.len(),
+                work.wholes.as_mut_ptr().cast(),
+                work.wholes.len(),
+                out.points.as_mut_ptr(),
+                out.points.len(),
+                out.section_ends.as_mut_ptr().cast(),
+                out.section_ends.len(),
+                out.sections,
+                out.count,
+            )
+        }
+    }
+
     /// A job by its bytes, with room for every job's outline.
     pub fn fill_job(bytes: &[u8], work: Work, out: Sewn) -> u64 {
         let (mut corners, mut ends) = ([0.0; 2048], [0usize; 255]);
@@ -330,6 +365,39 @@ pub mod fill {
         let (c, e) = (&f.outline.corners, &f.outline.ends);
         unsafe {
             beahcerot_row_list(
+                c.as_ptr(),
+                c.len(),
+                e.as_ptr().cast(),
+                e.len(),
+                f.rule,
+                f.spacing,
+                f.len,
+                f.inset,
+                f.pull,
+                f.cosine,
+                f.sine,
+                f.stagger,
+                f.bottom_up,
+                work.floats.as_mut_ptr(),
+                work.floats.len(),
+                work.wholes.as_mut_ptr().cast(),
+                work.wholes.len(),
+                out.ys.as_mut_ptr(),
+                out.ys.len(),
+                out.rows.as_mut_ptr(),
+                out.rows.len(),
+                out.section_numbers.as_mut_ptr().cast(),
+                out.section_numbers.len(),
+                out.pieces,
+            )
+        }
+    }
+
+    /// The same by the plain engine.
+    pub fn plain_row_list(f: &Fill, work: Work, out: Listed) -> u64 {
+        let (c, e) = (&f.outline.corners, &f.outline.ends);
+        unsafe {
+            beahcerot_plain_row_list(
                 c.as_ptr(),
                 c.len(),
                 e.as_ptr().cast(),

@@ -1,8 +1,8 @@
 //! Tatami fill, and the row list that it sews.
 
-use crate::raw::{beahcerot_row_list, beahcerot_tatami};
+use crate::raw::{beahcerot_plain_tatami, beahcerot_row_list, beahcerot_tatami};
 use crate::room::{Room, lend};
-use crate::{FillRule, Polyline, Refusal, lines, outline};
+use crate::{FillRule, P, Polyline, Refusal, lines, outline};
 
 #[derive(Clone, Debug)]
 pub struct FillParams {
@@ -40,8 +40,62 @@ fn guess(corners: usize) -> Room {
     }
 }
 
+/// A fill's entry: the sweep's or the plain engine's.
+type Engine = unsafe extern "C" fn(
+    *const f64,
+    usize,
+    *const usize,
+    usize,
+    u64,
+    f64,
+    f64,
+    f64,
+    f64,
+    f64,
+    f64,
+    u64,
+    bool,
+    *mut f64,
+    usize,
+    *mut usize,
+    usize,
+    *mut f64,
+    usize,
+    *mut usize,
+    usize,
+    *mut u64,
+    *mut u64,
+) -> u64;
+
 /// One stitched polyline per section, in original coordinates.
 pub fn tatami(
+    rings: &[Polyline],
+    rule: FillRule,
+    p: &FillParams,
+) -> Result<Vec<Polyline>, Refusal> {
+    sewn(beahcerot_tatami, rings, rule, p)
+}
+
+/// The same by the plain engine, which keeps no edge table: slower, in less room.
+pub fn tatami_plain(
+    rings: &[Polyline],
+    rule: FillRule,
+    p: &FillParams,
+) -> Result<Vec<Polyline>, Refusal> {
+    sewn(beahcerot_plain_tatami, rings, rule, p)
+}
+
+/// Whether both engines answer alike, to the last bit: for a suspicious crest.
+pub fn cross_check(rings: &[Polyline], rule: FillRule, p: &FillParams) -> bool {
+    let bits = |q: &P| [q.x.to_bits(), q.y.to_bits()];
+    let all = |s: Vec<Polyline>| -> Vec<Vec<[u64; 2]>> {
+        s.iter().map(|l| l.iter().map(bits).collect()).collect()
+    };
+    tatami(rings, rule, p).map(all) == tatami_plain(rings, rule, p).map(all)
+}
+
+fn sewn(
+    engine: Engine,
     rings: &[Polyline],
     rule: FillRule,
     p: &FillParams,
@@ -53,7 +107,7 @@ pub fn tatami(
         let (mut out, mut stops) = (vec![0.0; room.out], vec![0; room.out / 4]);
         let (mut sections, mut count) = (0, 0);
         let answer = unsafe {
-            beahcerot_tatami(
+            engine(
                 corners.as_ptr(),
                 corners.len(),
                 ends.as_ptr(),

@@ -14,7 +14,7 @@ mod refusal;
 mod room;
 mod satin;
 
-pub use fill::{FillParams, Piece, row_list, tatami};
+pub use fill::{FillParams, Piece, cross_check, row_list, tatami, tatami_plain};
 pub use line::running;
 pub use mending::{Dropped, Reason, salvage};
 pub use pattern::{bounds, clip_inside, cross_stitch};

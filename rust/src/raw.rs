@@ -4,6 +4,8 @@
 #[rustfmt::skip]
 #[allow(clippy::too_many_arguments, dead_code)]
 unsafe extern "C" {
+    pub fn beahcerot_plain_tatami(corners: *const f64, corners_len: usize, ends: *const usize, ends_len: usize, rule: u64, spacing: f64, len: f64, inset: f64, pull: f64, cosine: f64, sine: f64, stagger: u64, upward: bool, floats: *mut f64, floats_len: usize, wholes: *mut usize, wholes_len: usize, points: *mut f64, points_len: usize, stops: *mut usize, stops_len: usize, sections: *mut u64, count: *mut u64) -> u64;
+    pub fn beahcerot_plain_row_list(corners: *const f64, corners_len: usize, ends: *const usize, ends_len: usize, rule: u64, spacing: f64, len: f64, inset: f64, pull: f64, cosine: f64, sine: f64, stagger: u64, upward: bool, floats: *mut f64, floats_len: usize, wholes: *mut usize, wholes_len: usize, ys: *mut f64, ys_len: usize, rows: *mut i64, rows_len: usize, sections: *mut usize, sections_len: usize, pieces: *mut u64) -> u64;
     pub fn beahcerot_split_long(line: *const f64, line_len: usize, max: f64, out: *mut f64, out_len: usize, count: *mut u64) -> u64;
     pub fn beahcerot_s_stitch(line: *const f64, line_len: usize, out: *mut f64, out_len: usize, count: *mut u64) -> u64;
     pub fn beahcerot_pairs(a: *const f64, a_len: usize, b: *const f64, b_len: usize, sync: *const f64, sync_len: usize, step: f64, work: *mut f64, work_len: usize, out: *mut f64, out_len: usize, count: *mut u64) -> u64;

@@ -127,6 +127,7 @@ fn tatami_is_zigzags() {
             &sewn,
             &fill::tatami_merged(&all_theirs(&rings), their_rule, &their_p),
         );
+        assert!(ours::cross_check(&rings, rule, &p), "the engines differ");
         points += sewn.iter().map(|l| l.len()).sum::<usize>();
         let pieces = ours::row_list(&rings, rule, &p).unwrap();
         let their_pieces = fill::row_list_merged(&all_theirs(&rings), their_rule, &their_p);

@@ -47,6 +47,8 @@ use Rattle.exports.proofs.pattern.beahcerot_clip_inside
 use Rattle.exports.proofs.pattern.beahcerot_cross_stitch
 use Rattle.exports.proofs.fill.beahcerot_tatami
 use Rattle.exports.proofs.fill.beahcerot_row_list
+use Rattle.exports.proofs.bench.beahcerot_plain_tatami
+use Rattle.exports.proofs.bench.beahcerot_plain_row_list
 use Rattle.exports.proofs.fill.beahcerot_fill_room
 use Rattle.exports.proofs.fill.beahcerot_fill_job
 use Rattle.exports.proofs.machine.beahcerot_dst
@@ -205,6 +207,12 @@ tatami-entry κs a x y h k = let s = one h k in λ i. (s i .said .answer, (tt, (
 
 pub row-list-entry : One beahcerot_row_list.ended beahcerot_row_list.Reads.Learnt
 row-list-entry κs a x y h k = let s = one h k in λ i. (s i .said .answer, (tt, (tt, (tt, (tt, (tt, (tt, (tt, (tt, (tt, (tt, (tt, (s i .floats, (s i .wholes, (s i .ys, (s i .rows, (s i .sections, (s i .said .pieces, tt))))))))))))))))))
+
+pub plain-tatami-entry : One beahcerot_plain_tatami.ended beahcerot_plain_tatami.Reads.Learnt
+plain-tatami-entry κs a x y h k = let s = one h k in λ i. (s i .said .answer, (tt, (tt, (tt, (tt, (tt, (tt, (tt, (tt, (tt, (tt, (tt, (s i .floats, (s i .wholes, (s i .points, (s i .ends, (s i .said .sections, (s i .said .points, tt))))))))))))))))))
+
+pub plain-row-list-entry : One beahcerot_plain_row_list.ended beahcerot_plain_row_list.Reads.Learnt
+plain-row-list-entry κs a x y h k = let s = one h k in λ i. (s i .said .answer, (tt, (tt, (tt, (tt, (tt, (tt, (tt, (tt, (tt, (tt, (tt, (s i .floats, (s i .wholes, (s i .ys, (s i .rows, (s i .sections, (s i .said .pieces, tt))))))))))))))))))
 
 pub fill-room-entry : One beahcerot_fill_room.ended beahcerot_fill_room.Reads.Learnt
 fill-room-entry κs a x y h k = both (one (h .0) (k .0)) (λ i. (tt, (tt, (tt, (tt, (tt, (tt, (tt, (tt, (tt, (one (h .1) (k .1) i, (one (h .2) (k .2) i, tt))))))))))))

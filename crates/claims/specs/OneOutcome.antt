@@ -60,6 +60,8 @@ use Rattle.patterns.proofs.clip_inside
 use Rattle.patterns.proofs.cross_stitch
 use Rattle.tatami.proofs.tatami
 use Rattle.tatami.proofs.row_list
+use Rattle.plain.proofs.tatami as plain_tatami
+use Rattle.plain.proofs.row_list as plain_row_list
 use Rattle.fillroom.proofs.fill_room
 use Rattle.jobs.proofs.job.parse
 use Rattle.desk.proofs.fill_job
@@ -241,6 +243,12 @@ tatami-outcome κs a x y h k = let s = left-parts (one h k) in both (s .0) (λ i
 
 pub row-list-outcome : One row_list.ended row_list.Reads.Learnt
 row-list-outcome κs a x y h k = let s = one h k in λ i. (s i .said, (tt, (tt, (tt, (tt, (tt, (tt, (s i .ys, (s i .rows, (s i .sections, (s i .floats, (s i .wholes, tt))))))))))))
+
+pub plain-tatami-outcome : One plain_tatami.ended plain_tatami.Reads.Learnt
+plain-tatami-outcome κs a x y h k = let s = left-parts (one h k) in both (s .0) (λ i. (tt, (tt, (tt, (tt, (tt, (tt, (s .1 i, (s .2 i, (s .3 i, (s .4 i, tt)))))))))))
+
+pub plain-row-list-outcome : One plain_row_list.ended plain_row_list.Reads.Learnt
+plain-row-list-outcome κs a x y h k = let s = one h k in λ i. (s i .said, (tt, (tt, (tt, (tt, (tt, (tt, (s i .ys, (s i .rows, (s i .sections, (s i .floats, (s i .wholes, tt))))))))))))
 
 pub fill-room-outcome : One fill_room.ended fill_room.Reads.Learnt
 fill-room-outcome κs a x y h k = both (one h k) refl

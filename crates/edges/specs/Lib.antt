@@ -4,3 +4,4 @@ pub mod TableLaws
 pub mod Span
 pub mod SpanLaws
 pub mod EdgeCount
+pub mod SideLaws

@@ -44,14 +44,14 @@ use Rattle.rules.specs.CallLaws.{gate-through}
 
 -- ---- a row's crossings, by edge
 
-abbrev crosses : Float → Edge → Bool
+abbrev pub crosses : Float → Edge → Bool
 crosses y e = le (e .y0) y && lt y (e .y1)
 
-abbrev crossAt : Float → Edge → Float × ℤ
+abbrev pub crossAt : Float → Edge → Float × ℤ
 crossAt y e = (e .x0 ⊕ (y ⊖ e .y0) ⊗ e .dxdy, dir e)
 
 -- as the edges come
-abbrev unsorted : Float → List Edge → List (Float × ℤ)
+abbrev pub unsorted : Float → List Edge → List (Float × ℤ)
 unsorted y es = map (crossAt y) (sift (crosses y) es)
 
 read-from : {A : Type 0} (l : List A) (z : A) (i n : ℕ) → i + n ≡ length l → map (λ j. getD l j z) (upto i n) ≡ drop i l
@@ -77,7 +77,7 @@ abbrev pub Sound : Float → Edge → Type 0
 Sound y e = T (not (isNan (e .x0 ⊕ (y ⊖ e .y0) ⊗ e .dxdy)))
 
 module _ (y : Float) (rest : Sound y noEdge) where
-  numbers : (es : List Edge) → All (Sound y) es → Numbers (unsorted y es)
+  pub numbers : (es : List Edge) → All (Sound y) es → Numbers (unsorted y es)
   numbers es sound = all-mapped (Sound y) (λ c. Number (c .0)) (crossAt y) (λ e h. (add-fits binary64 _ _, h)) (sift (crosses y) es) (all-sift (Sound y) (crosses y) es sound)
 
   in-order : (es : List Edge) → All (Sound y) es → Sorted (λ c e. before (e .0) (c .0) ≡ false) (map (crossing es y) (crossed es y))
@@ -87,7 +87,7 @@ module _ (y : Float) (rest : Sound y noEdge) where
       sorted-mapped (λ i j. before (crossX es y j) (crossX es y i) ≡ false) (λ c e. before (e .0) (c .0) ≡ false) (crossing es y) (λ i j h. h) (crossed es y)
       (sorted-before (crossX es y) (λ i. add-fits binary64 _ _) (all-get (Sound y) noEdge rest es sound) places)
 
-  crossings-gathered : (es : List Edge) → All (Sound y) es → crossings es y (crossed es y) ≡ gathered (unsorted y es)
+  pub crossings-gathered : (es : List Edge) → All (Sound y) es → crossings es y (crossed es y) ≡ gathered (unsorted y es)
   unfolding crossings
   crossings-gathered es sound =
       let cs = map (crossing es y) (crossed es y) in

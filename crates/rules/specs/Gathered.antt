@@ -22,7 +22,7 @@ use Rattle.rules.specs.Merged.{either}
 abbrev pub Number : Float → Type 0
 Number x = T (fits binary64 x) × T (not (isNan x))
 
-not-self : (x : Float) → before x x ≡ false
+pub not-self : (x : Float) → before x x ≡ false
 not-self x = refute (before x x) (λ e. absurd (before-irrefl x (holds e)))
 
 pub one-way : (x z : Float) → before x z ≡ true → before z x ≡ false
@@ -32,12 +32,12 @@ pub through : (x y z : Float) → before x y ≡ true → before y z ≡ true �
 through x y z p q = is-true (before x z) (before-trans x y z (holds p) (holds q))
 
 -- x stands before z, or behind it, or they are one
-data Rel (x z : Float) : Type 0 where
+pub data Rel (x z : Float) : Type 0 where
   less : before x z ≡ true → before z x ≡ false → Rel x z
   more : before x z ≡ false → before z x ≡ true → Rel x z
   same : x ≡ z → Rel x z
 
-rel : (x z : Float) → Number x → Number z → Rel x z
+pub rel : (x z : Float) → Number x → Number z → Rel x z
 rel x z h k =
     ⊎-elim (λ p. let q = is-true (before x z) p in less q (one-way x z q))
     (λ r. ⊎-elim (λ p. let q = is-true (before z x) p in more (one-way z x q) q) (λ e. same e) r)

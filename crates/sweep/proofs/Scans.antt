@@ -7,17 +7,18 @@ use lib.IntN.{ℤ, pos, negsuc, _+ℤ_}
 use lib.ListN.{length, drop, getD}
 use lib.Ieee.{Float}
 use Rattle.numbers.specs.Num.{_⊕_, _⊖_, _⊗_}
-use Rattle.seqs.specs.Lists.{keepIf, sift}
+use Rattle.seqs.specs.Lists.{keepIf}
 use Rattle.seqs.specs.Front.{next, none}
 use Rattle.outlines.specs.Inside.{inside}
 use Rattle.rules.specs.declared.Edge.{Edge}
-use Rattle.rules.specs.Fill.{edge, crossX, dir, crossing, sameX, mergedFrom, merged, crossings, spans}
+use Rattle.rules.specs.Fill.{edge, crossX, dir, crossing, sameX, mergedFrom, merged, crossings}
 use Rattle.sweep.specs.declared.piece.Cut.{Cut}
 use Rattle.sweep.specs.declared.piece.Span.{Span}
 use Rattle.sweep.specs.declared.piece.Crossing.{Crossing}
 use Rattle.sweep.specs.declared.piece.Scan.{Scan}
 use Rattle.sweep.specs.declared.piece.Step.{Step}
 use Rattle.sweep.specs.declared.piece.Step.the-variants.{Found, End}
+use Rattle.sweep.specs.SweptLaws.{cuts-next, cuts-none}
 use Rattle.sweep.specs.Swept.{Crossed, cutEnds, wideSpan, cutsFrom, restOf, passed, Next, Stepped}
 
 -- a crossing at x of direction d is merged with those from place i on
@@ -44,27 +45,17 @@ module _ (es : List Edge) (y : Float) (l : List ℕ) where
   merge-none x d i h = rw (none l i h)
 
 module _ (c : Cut) (es : List Edge) (l : List ℕ) (s : Scan) where
-  keep : (was now : Bool) (x start : Float) (r : Float → List (Float × Float))
-      → sift (wideSpan c) (map (cutEnds c) (keepIf (was && not now) (start, x) (r (cond (not was && now) x start))))
-      ≡ keepIf ((was && not now) && wideSpan c (cutEnds c (cond (not was && now) x start, x))) (cutEnds c (cond (not was && now) x start, x)) (sift (wideSpan c) (map (cutEnds c) (r (cond (not was && now) x start))))
-  keep true true x start r = refl
-  keep true false x start r = refl
-  keep false true x start r = refl
-  keep false false x start r = refl
-
   -- the scan past the next crossing x, and the piece that may end there
   rest-next : (x : Crossing) → Crossed es (c .y) l (s .at) x
       → let t = passed c s x in
       let q = cutEnds c (t .start, x .x) in
       restOf c es l s ≡ keepIf ((inside (c .rule) (s .w) && not (inside (c .rule) (t .w))) && wideSpan c q) q (restOf c es l t)
-  unfolding cutsFrom spans
-  rest-next x h =
-      rw (h .is)
-      (keep (inside (c .rule) (s .w)) (inside (c .rule) (s .w +ℤ x .dir)) (x .x) (s .start) (λ from. spans (c .rule) (s .w +ℤ x .dir) from (crossings es (c .y) (drop (x .next) l))))
+  unfolding cutsFrom
+  rest-next x h = rw (h .is) (cuts-next c (s .w) (s .start) (x .x) (x .dir) (crossings es (c .y) (drop (x .next) l)))
 
   pub rest-none : length l ≤ s .at → restOf c es l s ≡ []
-  unfolding cutsFrom spans crossings merged
-  rest-none h = rw (none l (s .at) h)
+  unfolding cutsFrom crossings merged
+  rest-none h = rw (none l (s .at) h) (cuts-none c (s .w) (s .start))
 
   -- what the calls of a turn ensure, put together
   pub scan-turn : {x : Crossing} {ends : Bool} {s′ : Scan} {q : Span} → Crossed es (c .y) l (s .at) x

@@ -79,9 +79,13 @@ cutEnds c ab = record { xa = ab .0 ⊕ c .shrink; xb = ab .1 ⊖ c .shrink }
 abbrev pub wideSpan : Cut → Span → Bool
 wideSpan c p = le (c .least) (p .xb ⊖ p .xa)
 
--- what is left of a row's pieces where a scan of its places stands
+-- what is left of a row's pieces at the winding w, a span begun at start, where these crossings are left
+unfoldable pub cutsOf : Cut → ℤ → Float → List (Float × ℤ) → List Span
+cutsOf c w start cs = sift (wideSpan c) (map (cutEnds c) (spans (c .rule) w start cs))
+
+-- and where a scan of its places stands
 unfoldable pub cutsFrom : Cut → List Edge → ℤ → Float → List ℕ → List Span
-cutsFrom c es w start l = sift (wideSpan c) (map (cutEnds c) (spans (c .rule) w start (crossings es (c .y) l)))
+cutsFrom c es w start l = cutsOf c w start (crossings es (c .y) l)
 
 abbrev pub restOf : Cut → List Edge → List ℕ → Scan → List Span
 restOf c es l s = cutsFrom c es (s .w) (s .start) (drop (s .at) l)

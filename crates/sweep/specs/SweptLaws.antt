@@ -26,7 +26,7 @@ use Rattle.edges.specs.Span.{rowNumber}
 use Rattle.sweep.specs.declared.key.Key.{Key}
 use Rattle.sweep.specs.declared.piece.Cut.{Cut}
 use Rattle.sweep.specs.declared.piece.Span.{Span}
-use Rattle.sweep.specs.Swept.{by, ordered, enters, places, cutAt, cutEnds, wideSpan, cutsFrom, cuts, spanBlock, numbers, swept}
+use Rattle.sweep.specs.Swept.{by, ordered, enters, places, cutAt, cutEnds, wideSpan, cutsOf, cutsFrom, cuts, spanBlock, numbers, swept}
 
 pub ordered-length : (key : Key) (es : List Edge) (l : List ℕ) → length (ordered key es l) ≡ length l
 unfolding ordered
@@ -44,11 +44,35 @@ spans-few rule w start (c ∷ l) = go (inside rule w && not (inside rule (w +ℤ
     go false p r h = omega arith
 
 pub cuts-few : (c : Cut) (es : List Edge) (l : List ℕ) → length (cuts c es l) ≤ length l
-unfolding cuts cutsFrom crossings
+unfolding cuts cutsFrom cutsOf crossings
 cuts-few c es l =
     let cs = map (crossing es (c .y)) l in
     let ss = spans (c .rule) (pos 0) zero64 (merged cs) in
     omega (arith, sift-length (wideSpan c) (map (cutEnds c) ss), length-map ss (cutEnds c), spans-few (c .rule) (pos 0) zero64 (merged cs), merged-length cs, length-map l (crossing es (c .y)))
+
+-- ---- one crossing on
+
+module _ (c : Cut) (w : ℤ) (start : Float) where
+  keep : (was now : Bool) (x : Float) (r : Float → List (Float × Float))
+      → sift (wideSpan c) (map (cutEnds c) (keepIf (was && not now) (start, x) (r (cond (not was && now) x start))))
+      ≡ keepIf ((was && not now) && wideSpan c (cutEnds c (cond (not was && now) x start, x))) (cutEnds c (cond (not was && now) x start, x)) (sift (wideSpan c) (map (cutEnds c) (r (cond (not was && now) x start))))
+  keep true true x r = refl
+  keep true false x r = refl
+  keep false true x r = refl
+  keep false false x r = refl
+
+  -- past the crossing at x, where a piece may end
+  pub cuts-next : (x : Float) (d : ℤ) (cs : List (Float × ℤ))
+      → let v = w +ℤ d in
+      let from = cond (not (inside (c .rule) w) && inside (c .rule) v) x start in
+      let q = cutEnds c (from, x) in
+      cutsOf c w start ((x, d) ∷ cs) ≡ keepIf ((inside (c .rule) w && not (inside (c .rule) v)) && wideSpan c q) q (cutsOf c v from cs)
+  unfolding cutsOf spans
+  cuts-next x d cs = keep (inside (c .rule) w) (inside (c .rule) (w +ℤ d)) x (λ from. spans (c .rule) (w +ℤ d) from cs)
+
+  pub cuts-none : cutsOf c w start [] ≡ []
+  unfolding cutsOf spans
+  cuts-none = refl
 
 -- ---- a row's spans are its pieces
 
@@ -57,7 +81,7 @@ module _ (rule : FillRule) (g : Settings) (k : ℤ) where
   abbrev pub asPiece : Span → Piece
   asPiece p = record { k = k; y = rowAt g k; xa = p .xa; xb = p .xb }
 
-  as-pieces : (l : List (Float × Float)) → sift (wide g) (map (pieceOf g k) l) ≡ map asPiece (sift (wideSpan (cutAt rule g k)) (map (cutEnds (cutAt rule g k)) l))
+  pub as-pieces : (l : List (Float × Float)) → sift (wide g) (map (pieceOf g k) l) ≡ map asPiece (sift (wideSpan (cutAt rule g k)) (map (cutEnds (cutAt rule g k)) l))
   unfolding wide pieceOf cutAt
   as-pieces [] = refl
   as-pieces (ab ∷ l) =
@@ -69,7 +93,7 @@ module _ (rule : FillRule) (g : Settings) (k : ℤ) where
       go false p r e = e
 
   pub cuts-pieces : (es : List Edge) (l : List ℕ) → piecesAt rule g es k l ≡ map asPiece (cuts (cutAt rule g k) es l)
-  unfolding piecesAt cuts cutsFrom cutAt
+  unfolding piecesAt cuts cutsFrom cutsOf cutAt
   cuts-pieces es l = as-pieces (spans rule (pos 0) zero64 (crossings es (rowAt g k) l))
 
   piece-blocks : (ps : List Span) → each (spanBlock (rowAt g k)) ps ≡ each pieceBlock (map asPiece ps)

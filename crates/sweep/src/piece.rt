@@ -46,7 +46,7 @@ pub enum Step {
     End,
 }
 
-fn way(falls: bool) -> i64
+pub fn way(falls: bool) -> i64
     ensures { λ r. ⌜ (r ≡ cond falls (pos 1) (negsuc 0)) × (natAbs r ≤ 1) ⌝ }
 {
     if falls { 1 } else { -1 }
@@ -60,7 +60,7 @@ fn same_x(x: f64, z: f64) -> bool
 }
 
 // The next crossing has the same x: its direction is added.
-fn join(c: Crossing, falls: bool) -> Crossing
+pub fn join(c: Crossing, falls: bool) -> Crossing
     requires { ⌜ (natAbs (c .dir) ≤ 100000) × (c .next ≤ 100000) ⌝ }
     ensures { λ r. ⌜ (r ≡ joinedTo c falls) × (natAbs (r .dir) ≤ natAbs (c .dir) + 1) ⌝ }
 {
@@ -104,7 +104,7 @@ fn begins(rule: FillRule, w: i64, v: i64) -> bool
 }
 
 // The scan one crossing on.
-fn pass(c: Cut, s: Scan, x: Crossing) -> Scan
+pub fn pass(c: Cut, s: Scan, x: Crossing) -> Scan
     requires { ⌜ (natAbs (s .w) ≤ s .at) × (natAbs (x .dir) + s .at ≤ x .next) × (x .next ≤ 100000) ⌝ }
     ensures { λ r. ⌜ (r ≡ passed c s x) × (natAbs (r .w) ≤ r .at) ⌝ }
 {
@@ -124,7 +124,7 @@ fn pass(c: Cut, s: Scan, x: Crossing) -> Scan
     }
 }
 
-fn cut_ends(c: Cut, a: f64, b: f64) -> Span
+pub fn cut_ends(c: Cut, a: f64, b: f64) -> Span
     ensures { λ r. ⌜ r ≡ cutEnds c (a, b) ⌝ }
 {
     Span {
@@ -134,7 +134,7 @@ fn cut_ends(c: Cut, a: f64, b: f64) -> Span
 }
 
 // Whether a kept piece ends on the way from s to t.
-fn closes(c: Cut, s: Scan, t: Scan, p: Span) -> bool
+pub fn closes(c: Cut, s: Scan, t: Scan, p: Span) -> bool
     requires { ⌜ (natAbs (s .w) ≤ 1000000) × (natAbs (t .w) ≤ 1000000) ⌝ }
     ensures { λ r. ⌜ r ≡ ((inside (c .rule) (s .w) && not (inside (c .rule) (t .w))) && wideSpan c p) ⌝ }
 {
@@ -167,7 +167,7 @@ pub fn next_piece(floats: &[f64], e: usize, places: &[usize], c: Cut, from: Scan
     Step::End
 }
 
-fn put_piece(floats: &mut [f64], k: usize, y: f64, p: Span)
+pub fn put_piece(floats: &mut [f64], k: usize, y: f64, p: Span)
     requires { ⌜ k ≤ 1000000000 ⌝ }
     ensures { λ _. ⌜ Wrote (now (floats .entry)) (now (floats .exit)) k (spanBlock y p) ⌝ }
 {

@@ -138,15 +138,15 @@ module _ {n : ℕ} (h : 1 ≤ n) where
   worked-none z l k = rw (le-leb 1 n h, le-leb n 5 k)
 
 -- WORK, ROOM and DONE leave zeros
+pub worked-late : (short fits : Bool) {A : Type 0} (z : A) (l : List A) → worked (cond short WORK (cond (not fits) ROOM DONE)) z l ≡ replicate (length l) z
+worked-late true fits z l = refl
+worked-late false true z l = refl
+worked-late false false z l = refl
+
 pub worked-zero : (corners : List Float) (ends : List ℕ) (rule : FillRule) (g : Settings) (upward : Bool) (floats wholes : ℕ) (fits : Bool) {A : Type 0} (z : A) (l : List A)
     → worked (roomed corners ends rule g upward floats wholes fits) z l ≡ replicate (length l) z
 unfolding roomed
 worked-zero corners ends rule g upward floats wholes fits z l =
     let e = length (edges g (rings corners ends)) in
     let i = length (rowList (rings corners ends) rule g upward) in
-    go (ltb floats (needFloats e i) || ltb wholes (needWholes e i)) fits
-  where
-    go : (a b : Bool) → worked (cond a WORK (cond (not b) ROOM DONE)) z l ≡ replicate (length l) z
-    go true b = refl
-    go false true = refl
-    go false false = refl
+    worked-late (ltb floats (needFloats e i) || ltb wholes (needWholes e i)) fits z l

@@ -99,7 +99,7 @@ fn show_slice(slice: &[u64]) -> String {
 type Need = fn(&Fill) -> Option<Vec<usize>>;
 type Owed = fn(&Fill, &[usize], Equal) -> Left;
 
-fn function(
+pub(super) fn function(
     name: &'static str,
     need: Need,
     slices: usize,
@@ -157,13 +157,21 @@ fn bits(slice: Vec<f64>) -> Vec<u64> {
 
 /// What our `tatami` leaves.
 fn tatami_left(f: &Fill, words: &[usize]) -> Left {
+    sewn_left(f, words, ours::tatami)
+}
+
+pub(super) fn sewn_left(
+    f: &Fill,
+    words: &[usize],
+    call: fn(&Fill, ours::Work, ours::Sewn) -> u64,
+) -> Left {
     let (mut work, mut wholes) = (floats(words[0]), fresh(words[1]));
     let (mut points, mut ends) = (floats(words[2]), fresh(words[3]));
     let mut counts = vec![MARK; 2];
     let [sections, count] = &mut counts[..] else {
         unreachable!("two counts")
     };
-    let answer = ours::tatami(
+    let answer = call(
         f,
         ours::Work {
             floats: lent(&mut work),
@@ -185,10 +193,18 @@ fn tatami_left(f: &Fill, words: &[usize]) -> Left {
 
 /// What our row list leaves.
 fn row_list_left(f: &Fill, words: &[usize]) -> Left {
+    listed_left(f, words, ours::row_list)
+}
+
+pub(super) fn listed_left(
+    f: &Fill,
+    words: &[usize],
+    call: fn(&Fill, ours::Work, ours::Listed) -> u64,
+) -> Left {
     let (mut work, mut wholes) = (floats(words[0]), fresh(words[1]));
     let (mut ys, mut rows, mut numbers) = (floats(words[2]), signed(words[3]), fresh(words[4]));
     let mut counts = vec![MARK];
-    let answer = ours::row_list(
+    let answer = call(
         f,
         ours::Work {
             floats: lent(&mut work),

@@ -10,6 +10,7 @@ pub mod geom;
 mod jobs;
 pub mod leaves;
 pub mod patterns;
+mod plain;
 mod records;
 mod salvage;
 pub mod satin;
@@ -545,6 +546,7 @@ pub fn groups() -> Vec<Group> {
                 .flatten()
                 .collect(),
         ),
+        group("plain", plain::functions()),
         group("mending", salvage::functions()),
         group("book", book::functions()),
     ]

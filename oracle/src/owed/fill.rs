@@ -25,6 +25,13 @@ pub enum Equal {
     Merged,
 }
 
+/// Whose need: the sweep's, or that of request [8]'s engine, which has no edge table.
+#[derive(Clone, Copy)]
+pub enum Engine {
+    Sweep,
+    Plain,
+}
+
 /// The table's 1 to 5, which look at no lent slice.
 pub fn gate(f: &Fill) -> u64 {
     let o = &f.outline;
@@ -95,20 +102,32 @@ fn points_at_least(pieces: &[Piece], len: f64) -> u64 {
 }
 
 /// The need of a fill that passed the gate: floats and whole numbers.
-fn work(f: &Fill, pieces: usize) -> [usize; 2] {
-    let edges = kept(f).len();
+fn work(f: &Fill, pieces: usize, engine: Engine) -> [usize; 2] {
+    let edges = match engine {
+        Engine::Sweep => kept(f).len(),
+        Engine::Plain => 0,
+    };
     [6 * edges + 4 * pieces, 4 * edges + 6 * pieces]
 }
 
 /// What `tatami` owes where it is lent floats, wholes, floats for points, ends.
 pub fn tatami(f: &Fill, lent: &[usize], equal: Equal) -> Left {
+    sewn(f, lent, equal, Engine::Sweep)
+}
+
+/// The same of the plain engine's `tatami`.
+pub fn plain_tatami(f: &Fill, lent: &[usize], equal: Equal) -> Left {
+    sewn(f, lent, equal, Engine::Plain)
+}
+
+fn sewn(f: &Fill, lent: &[usize], equal: Equal, engine: Engine) -> Left {
     let refused = |answer| left(answer, lent, WORKING, vec![0; 2], &[]);
     let first = gate(f);
     if first != DONE {
         return refused(first);
     }
     let pieces = pieces(f, equal);
-    if !fits(&work(f, pieces.len()), &lent[..2]) {
+    if !fits(&work(f, pieces.len(), engine), &lent[..2]) {
         return refused(WORK);
     }
     if 2 * points_at_least(&pieces, f.len) > lent[2] as u64 {
@@ -130,6 +149,15 @@ pub fn tatami(f: &Fill, lent: &[usize], equal: Equal) -> Left {
 /// What `row_list` owes where it is lent floats, wholes, floats for y, xa and
 /// xb, row numbers, section numbers.
 pub fn row_list(f: &Fill, lent: &[usize], equal: Equal) -> Left {
+    listed(f, lent, equal, Engine::Sweep)
+}
+
+/// The same of the plain engine's `row_list`.
+pub fn plain_row_list(f: &Fill, lent: &[usize], equal: Equal) -> Left {
+    listed(f, lent, equal, Engine::Plain)
+}
+
+fn listed(f: &Fill, lent: &[usize], equal: Equal, engine: Engine) -> Left {
     let refused = |answer| left(answer, lent, WORKING, vec![0], &[]);
     let first = gate(f);
     if first != DONE {
@@ -137,7 +165,7 @@ pub fn row_list(f: &Fill, lent: &[usize], equal: Equal) -> Left {
     }
     let pieces = pieces(f, equal);
     let n = pieces.len();
-    if !fits(&work(f, n), &lent[..2]) {
+    if !fits(&work(f, n, engine), &lent[..2]) {
         return refused(WORK);
     }
     if !fits(&[3 * n, n, n], &lent[2..]) {
@@ -172,8 +200,17 @@ pub fn fill_room(f: &Fill) -> [u64; 3] {
 /// What `tatami` needs of each slice to be done; nothing where it is refused
 /// whatever it is lent. Past `MOST` points it says less than the need.
 pub fn tatami_need(f: &Fill) -> Option<Vec<usize>> {
+    sewn_need(f, Engine::Sweep)
+}
+
+/// The same of the plain engine's `tatami`.
+pub fn plain_tatami_need(f: &Fill) -> Option<Vec<usize>> {
+    sewn_need(f, Engine::Plain)
+}
+
+fn sewn_need(f: &Fill, engine: Engine) -> Option<Vec<usize>> {
     let pieces = gated(f)?;
-    let [floats, wholes] = work(f, pieces.len());
+    let [floats, wholes] = work(f, pieces.len(), engine);
     if points_at_least(&pieces, f.len) > MOST {
         return Some(vec![floats, wholes, 100, pieces.len()]);
     }
@@ -184,8 +221,17 @@ pub fn tatami_need(f: &Fill) -> Option<Vec<usize>> {
 
 /// The same of `row_list`.
 pub fn row_list_need(f: &Fill) -> Option<Vec<usize>> {
+    listed_need(f, Engine::Sweep)
+}
+
+/// The same of the plain engine's `row_list`.
+pub fn plain_row_list_need(f: &Fill) -> Option<Vec<usize>> {
+    listed_need(f, Engine::Plain)
+}
+
+fn listed_need(f: &Fill, engine: Engine) -> Option<Vec<usize>> {
     let n = gated(f)?.len();
-    let [floats, wholes] = work(f, n);
+    let [floats, wholes] = work(f, n, engine);
     Some(vec![floats, wholes, 3 * n, n, n])
 }
 

@@ -11,7 +11,7 @@ use Rattle.geom.specs.OutlineLaws.{rising-turn}
 use Rattle.rules.specs.Fill.{edges}
 use Rattle.edges.specs.Table.{ringEdges}
 use Rattle.edges.specs.Span.{widen, nowhere}
-use Rattle.edges.proofs.Sides.{rest, rest-all, rest-next, rest-none}
+use Rattle.edges.specs.SideLaws.{rest, rest-all, rest-next, rest-none}
 use borrow.Author.Needs.{needs}
 use Rattle.edges.proofs.rows.extent_of.Statement.{statement}
 use Rattle.edges.proofs.rows.extent_of.Tie as tie

@@ -8,7 +8,7 @@ use Rattle.geom.specs.Outline.{points}
 use Rattle.rules.specs.Fill.{keptSide}
 use Rattle.edges.specs.Table.{corner, following, ringEdges}
 use Rattle.edges.specs.Span.{widen}
-use Rattle.edges.proofs.Sides.{left, left-next, left-none, ring-short, ring-long}
+use Rattle.edges.specs.SideLaws.{left, left-next, left-none, ring-short, ring-long}
 use borrow.Author.Needs.{needs}
 use Rattle.edges.proofs.rows.ring_extent.Statement.{statement}
 use Rattle.edges.proofs.rows.ring_extent.Tie as tie

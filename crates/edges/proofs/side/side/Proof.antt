@@ -1,6 +1,6 @@
 use native.Mathlib.Omega.{arith}
 use lib.ListN.{length}
-use Rattle.edges.proofs.Sides.{following-in}
+use Rattle.edges.specs.SideLaws.{following-in}
 use borrow.Author.Needs.{needs}
 use Rattle.edges.proofs.side.side.Statement.{statement}
 use Rattle.edges.proofs.side.side.Tie as tie

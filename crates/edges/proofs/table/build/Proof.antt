@@ -9,7 +9,7 @@ use Rattle.geom.specs.OutlineLaws.{rising-turn}
 use Rattle.rules.specs.Fill.{edges}
 use Rattle.edges.specs.Table.{edgeBlock, edgePlace}
 use Rattle.edges.specs.EdgeCount.{flat-few}
-use Rattle.edges.proofs.Sides.{rest, rest-all, rest-next, rest-none}
+use Rattle.edges.specs.SideLaws.{rest, rest-all, rest-next, rest-none}
 use borrow.Author.Needs.{needs}
 use Rattle.edges.proofs.table.build.Statement.{statement}
 use Rattle.edges.proofs.table.build.Tie as tie

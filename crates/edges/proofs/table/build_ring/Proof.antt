@@ -5,7 +5,7 @@ use lib.ListN.{length, drop}
 use Rattle.seqs.specs.Adding.{Adding, adding-start, adding-at, adding-step, adding-end, added-none}
 use Rattle.geom.specs.Outline.{points}
 use Rattle.edges.specs.Table.{corner, edgeBlock, edgePlace, ringEdges}
-use Rattle.edges.proofs.Sides.{left, left-next, left-none, ring-short, ring-long, found-few}
+use Rattle.edges.specs.SideLaws.{left, left-next, left-none, ring-short, ring-long, found-few}
 use borrow.Author.Needs.{needs}
 use Rattle.edges.proofs.table.build_ring.Statement.{statement}
 use Rattle.edges.proofs.table.build_ring.Tie as tie

@@ -1,0 +1,27 @@
+//! The plain engine: `tatami` and the row list with no edge table (request [8]),
+//! over the fill's inputs and boundaries, held to what the Rust owes with the plain
+//! engine's own need.
+
+use super::Function;
+use super::fill::{function, listed_left, sewn_left};
+use crate::ours::fill as ours;
+use crate::owed::fill as owed;
+
+pub fn functions() -> Vec<Function> {
+    vec![
+        function(
+            "plain_tatami",
+            owed::plain_tatami_need,
+            4,
+            owed::plain_tatami,
+            |f, words| sewn_left(f, words, ours::plain_tatami),
+        ),
+        function(
+            "plain_row_list",
+            owed::plain_row_list_need,
+            5,
+            owed::plain_row_list,
+            |f, words| listed_left(f, words, ours::plain_row_list),
+        ),
+    ]
+}
