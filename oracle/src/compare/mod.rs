@@ -563,6 +563,9 @@ pub fn replay() -> List {
         satin::replay,
         patterns::replay,
         dst::replay,
+        dst_read::replay,
+        salvage::replay,
+        book::replay,
     ] {
         group(&mut list);
     }

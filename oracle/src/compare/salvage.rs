@@ -1,18 +1,70 @@
 //! Broken outlines: stray corners dropped and told.
 
+use super::records::{Call, List, Owed};
 use super::{Function, Operands, Outcome, UNTOUCHED, list, no_tie, simplicity};
 use crate::expect::{self, DONE, LAYOUT, ROOM};
 use crate::inputs::{
+    crests,
     numbers::{beside, coordinate},
     outlines::{self, Outline},
 };
 use crate::ours::salvage::{self as ours, Lent};
 use crate::rng::Rng;
 use crate::salvage;
+use std::cell::RefCell;
 use zigzag::geom::{P, Polyline};
 
 pub fn functions() -> Vec<Function> {
-    vec![Function::new("salvage", make, owed, gave, no_tie)]
+    let mut function = Function::new("salvage", make, owed, gave, no_tie);
+    for (name, fill) in crests::named().into_iter().skip(1) {
+        function = function.timed_on(
+            format!("salvage {name}"),
+            move |rng| vec![Timed::new(rng, fill.outline.rings())],
+            |t| salvage::salvage(&t.rings),
+            Timed::ours,
+        );
+    }
+    vec![function]
+}
+
+/// An outline with twenty faults set in, and the slices that it is lent again and again.
+struct Timed {
+    rings: Vec<Polyline>,
+    outline: Outline,
+    corners: RefCell<Vec<f64>>,
+    wholes: RefCell<[Vec<u64>; 3]>,
+}
+
+impl Timed {
+    fn new(rng: &mut Rng, mut rings: Vec<Polyline>) -> Timed {
+        (0..20).for_each(|_| fault(rng, &mut rings));
+        outlines::truncate(&mut rings);
+        let needs = needs(&salvage::salvage(&rings));
+        Timed {
+            outline: Outline::new(&rings),
+            rings,
+            corners: RefCell::new(vec![0.0; needs[0]]),
+            wholes: RefCell::new([1, 2, 3].map(|k| vec![0; needs[k]])),
+        }
+    }
+
+    fn ours(&self) -> u64 {
+        let [ends, places, reasons] = &mut *self.wholes.borrow_mut();
+        let (mut kept, mut dropped) = (0, 0);
+        let answer = ours::salvage(
+            &self.outline,
+            Lent {
+                corners: &mut self.corners.borrow_mut(),
+                ends,
+                places,
+                reasons,
+                kept: &mut kept,
+                dropped: &mut dropped,
+            },
+        );
+        assert_eq!(answer, DONE);
+        kept
+    }
 }
 
 /// An outline, and how long the four output slices are.
@@ -215,4 +267,30 @@ fn fault(rng: &mut Rng, rings: &mut [Polyline]) {
         4 => ring[at].y = odd(rng),
         _ => ring[at].x = 0.0 * p.x,
     }
+}
+
+/// The replay list of broken outlines. A NaN is dropped or refused, so it has to be read and never to be written.
+pub fn replay(list: &mut List) {
+    let small = |rng: &mut Rng| make(rng, 0);
+    list.sample("salvage", 60, Vec::new(), small, |b| {
+        let fits = b.outline.corners.len() <= 24 && b.outline.ends.len() <= 12;
+        (fits && b.rooms.iter().all(|&n| n <= 64)).then_some(())?;
+        let call = Call {
+            function: 0x72,
+            lent: b.rooms.to_vec(),
+            lists: vec![
+                b.outline.corners.iter().map(|x| x.to_bits()).collect(),
+                b.outline.ends.clone(),
+            ],
+            ..Call::default()
+        };
+        let left = owed(b);
+        let slices = [&left.corners].into_iter().chain(&left.wholes);
+        let inner = |slice: &Vec<u64>| slice[GUARD..slice.len() - GUARD].to_vec();
+        let owed = Owed {
+            words: vec![left.answer, left.counts[0], left.counts[1]],
+            slices: slices.map(inner).collect(),
+        };
+        Some((call, owed))
+    });
 }
