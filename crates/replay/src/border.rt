@@ -64,86 +64,6 @@ fn column(
     say::floats(&out, m);
 }
 
-// The underlay, and whether the thread ends at the far end.
-fn underlay(
-    a: &[f64],
-    b: &[f64],
-    sync: &[f64],
-    spacing: f64,
-    pull: f64,
-    underlay: u64,
-    run_len: f64,
-    short: bool,
-    split: f64,
-    style: u64,
-    n: usize,
-    m: usize,
-) {
-    let mut work = [FLOAT; ROOM];
-    let mut out = [FLOAT; ROOM];
-    let mut count = MARK as u64;
-    let mut far = true;
-    say::word(border::beahcerot_underlay(
-        a,
-        b,
-        sync,
-        spacing,
-        pull,
-        underlay,
-        run_len,
-        short,
-        split,
-        style,
-        lend(&mut work, n),
-        lend(&mut out, m),
-        &mut count,
-        &mut far,
-    ));
-    say::word(count);
-    say::truth(far);
-    say::floats(&work, n);
-    say::floats(&out, m);
-}
-
-fn top(
-    a: &[f64],
-    b: &[f64],
-    sync: &[f64],
-    spacing: f64,
-    pull: f64,
-    underlay: u64,
-    run_len: f64,
-    short: bool,
-    split: f64,
-    style: u64,
-    far: bool,
-    n: usize,
-    m: usize,
-) {
-    let mut work = [FLOAT; ROOM];
-    let mut out = [FLOAT; ROOM];
-    let mut count = MARK as u64;
-    say::word(border::beahcerot_top(
-        a,
-        b,
-        sync,
-        spacing,
-        pull,
-        underlay,
-        run_len,
-        short,
-        split,
-        style,
-        far,
-        lend(&mut work, n),
-        lend(&mut out, m),
-        &mut count,
-    ));
-    say::word(count);
-    say::floats(&work, n);
-    say::floats(&out, m);
-}
-
 fn pairs_room(a: &[f64], b: &[f64], sync: &[f64], step: f64) {
     let mut floats = MARK as u64;
     say::word(border::beahcerot_pairs_room(a, b, sync, step, &mut floats));
@@ -179,7 +99,7 @@ fn column_room(
     say::word(floats);
 }
 
-// 0 and 1 are `pairs` and its room, 2 and 3 `column` and its room, 4 the underlay, 5 and 6 the top from the near and from the far end.
+// 0 and 1 are `pairs` and its room, 2 and 3 `column` and its room.
 fn made(
     f: usize,
     w: &[usize; WORDS],
@@ -200,23 +120,7 @@ fn made(
         0 => pairs(a, b, sync, s, n, m),
         1 => pairs_room(a, b, sync, s),
         2 => column(a, b, sync, s, pull, under, run, short, split, style, n, m),
-        3 => column_room(a, b, sync, s, pull, under, run, short, split, style),
-        4 => underlay(a, b, sync, s, pull, under, run, short, split, style, n, m),
-        _ => top(
-            a,
-            b,
-            sync,
-            s,
-            pull,
-            under,
-            run,
-            short,
-            split,
-            style,
-            f == 6,
-            n,
-            m,
-        ),
+        _ => column_room(a, b, sync, s, pull, under, run, short, split, style),
     }
 }
 

@@ -1,4 +1,4 @@
-// Patterns and broken outlines: list 1 has the corners, list 2 the ends of the rings, list 3 the line that is clipped.
+// Patterns: list 1 has the corners, list 2 the ends of the rings, list 3 the line that is clipped.
 use crate::read::LISTS;
 use crate::read::WORDS;
 use crate::read::lend;
@@ -9,7 +9,6 @@ use crate::say;
 use crate::say::FLOAT;
 use crate::say::MARK;
 use crate::say::ROOM;
-use exports::mending;
 use exports::pattern;
 
 fn clip_inside(l: &[f64], corners: &[f64], ends: &[usize], rule: u64, n: usize, m: usize) {
@@ -54,31 +53,6 @@ fn cross_stitch(corners: &[f64], ends: &[usize], rule: u64, cell: f64, n: usize,
     say::wholes(&stops, m);
 }
 
-fn salvage(corners: &[f64], ends: &[usize], h: usize, i: usize, k: usize, l: usize) {
-    let mut keep = [FLOAT; ROOM];
-    let mut stops = [MARK; ROOM];
-    let mut places = [MARK; ROOM];
-    let mut reasons = [MARK; ROOM];
-    let mut count = MARK as u64;
-    let mut dropped = MARK as u64;
-    say::word(mending::beahcerot_salvage(
-        corners,
-        ends,
-        lend(&mut keep, h),
-        lend_wholes(&mut stops, i),
-        lend_wholes(&mut places, k),
-        lend_wholes(&mut reasons, l),
-        &mut count,
-        &mut dropped,
-    ));
-    say::word(count);
-    say::word(dropped);
-    say::floats(&keep, h);
-    say::wholes(&stops, i);
-    say::wholes(&places, k);
-    say::wholes(&reasons, l);
-}
-
 pub fn call(f: usize, w: &[usize; WORDS], x: &[f64; WORDS], at: &[usize; LISTS]) {
     let corners = list(x, at, 1);
     let ends = whole_list(w, at, 2);
@@ -90,9 +64,5 @@ pub fn call(f: usize, w: &[usize; WORDS], x: &[f64; WORDS], at: &[usize; LISTS])
         clip_inside(l, corners, ends, rule, n, m);
         return;
     }
-    if f == 1 {
-        cross_stitch(corners, ends, rule, x[1], n, m);
-        return;
-    }
-    salvage(corners, ends, n, m, w[12], w[13]);
+    cross_stitch(corners, ends, rule, x[1], n, m);
 }

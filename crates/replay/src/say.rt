@@ -30,14 +30,6 @@ pub fn float(x: f64) {
     word(to_bits(x));
 }
 
-pub fn truth(b: bool) {
-    if b {
-        word(1);
-        return;
-    }
-    word(0);
-}
-
 // A word that stands so often in a row.
 fn run(v: u64, times: u64) {
     if times == 0 {

@@ -229,7 +229,10 @@ fn generated(rng: &mut Rng) -> Vec<u8> {
 
 /// The replay list of files that come back: cut ones and single records first.
 pub fn replay(list: &mut List) {
-    let first = (0..40).step_by(3).chain((40..16_424).step_by(611)).map(single);
+    let first = (0..40)
+        .step_by(3)
+        .chain((40..16_424).step_by(611))
+        .map(single);
     let roomy = |bytes: Vec<u8>| File {
         room: bytes.len(),
         marks: bytes.len() / 2,

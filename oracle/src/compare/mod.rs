@@ -564,7 +564,6 @@ pub fn replay() -> List {
         patterns::replay,
         dst::replay,
         dst_read::replay,
-        salvage::replay,
         book::replay,
     ] {
         group(&mut list);

@@ -1,6 +1,5 @@
 //! Broken outlines: stray corners dropped and told.
 
-use super::records::{Call, List, Owed};
 use super::{Function, Operands, Outcome, UNTOUCHED, list, no_tie, simplicity};
 use crate::expect::{self, DONE, LAYOUT, ROOM};
 use crate::inputs::{
@@ -267,30 +266,4 @@ fn fault(rng: &mut Rng, rings: &mut [Polyline]) {
         4 => ring[at].y = odd(rng),
         _ => ring[at].x = 0.0 * p.x,
     }
-}
-
-/// The replay list of broken outlines. A NaN is dropped or refused, so it has to be read and never to be written.
-pub fn replay(list: &mut List) {
-    let small = |rng: &mut Rng| make(rng, 0);
-    list.sample("salvage", 60, Vec::new(), small, |b| {
-        let fits = b.outline.corners.len() <= 24 && b.outline.ends.len() <= 12;
-        (fits && b.rooms.iter().all(|&n| n <= 64)).then_some(())?;
-        let call = Call {
-            function: 0x72,
-            lent: b.rooms.to_vec(),
-            lists: vec![
-                b.outline.corners.iter().map(|x| x.to_bits()).collect(),
-                b.outline.ends.clone(),
-            ],
-            ..Call::default()
-        };
-        let left = owed(b);
-        let slices = [&left.corners].into_iter().chain(&left.wholes);
-        let inner = |slice: &Vec<u64>| slice[GUARD..slice.len() - GUARD].to_vec();
-        let owed = Owed {
-            words: vec![left.answer, left.counts[0], left.counts[1]],
-            slices: slices.map(inner).collect(),
-        };
-        Some((call, owed))
-    });
 }

@@ -517,7 +517,7 @@ impl<I: Clone, R> Timed<I, R> {
 /// How many of each function the replay list has.
 const REPLAYED: usize = 60;
 
-/// The replay list: lines split and bent, columns, their halves and their rooms.
+/// The replay list: lines split and bent, columns and their rooms.
 pub fn replay(list: &mut List) {
     let path = |number| move |p: &Path, lent: &[usize]| path_call(number, p, lent);
     replay_calls(list, split_calls(), path(0x43));
@@ -526,10 +526,6 @@ pub fn replay(list: &mut List) {
         rails_call(0x60, &m.rails, &[m.step], lent)
     });
     replay_calls(list, column_calls(), |c, lent| column_call(0x62, c, lent));
-    replay_calls(list, underlay_calls(), |c, lent| column_call(0x64, c, lent));
-    replay_calls(list, top_calls(), |t, lent| {
-        column_call(if t.far { 0x66 } else { 0x65 }, &t.column, lent)
-    });
     let rooms = [boundaries::matched(), boundaries::large_matched()].concat();
     list.sample("pairs_room", REPLAYED, few(rooms), rails::matched, |m| {
         let call = rails_call(0x61, &m.rails, &[m.step], &[])?;
