@@ -1,14 +1,19 @@
-// Lines: list 1 has the corners.
+// Lines and machine files: list 1 has the corners, or a file's bytes.
+use crate::read;
 use crate::read::LISTS;
 use crate::read::WORDS;
+use crate::read::front;
 use crate::read::lend;
 use crate::read::lend_bytes;
+use crate::read::lend_marks;
 use crate::read::list;
+use crate::read::whole_list;
 use crate::say;
 use crate::say::BYTE;
 use crate::say::FLOAT;
 use crate::say::MARK;
 use crate::say::ROOM;
+use crate::say::WORD;
 use exports::border;
 use exports::line;
 use exports::machine;
@@ -54,11 +59,36 @@ fn dst(l: &[f64], n: usize) {
     say::bytes(&out, n);
 }
 
+fn points(bytes: &[u8; ROOM], size: usize, n: usize, m: usize) {
+    let mut points = [FLOAT; ROOM];
+    let mut marks = [WORD; ROOM];
+    let mut count = WORD;
+    let mut number = WORD;
+    say::word(machine::beahcerot_dst_read(
+        front(bytes, size),
+        lend(&mut points, n),
+        lend_marks(&mut marks, m),
+        &mut count,
+        &mut number,
+    ));
+    say::word(count);
+    say::word(number);
+    say::floats(&points, n);
+    say::marks(&marks, m);
+}
+
+fn dst_read(w: &[usize; WORDS], at: &[usize; LISTS]) {
+    let mut bytes = [0u8; ROOM];
+    let n = read::bytes(whole_list(w, at, 1), &mut bytes);
+    points(&bytes, n, w[10], w[11]);
+}
+
 pub fn call(f: usize, w: &[usize; WORDS], x: &[f64; WORDS], at: &[usize; LISTS]) {
     let l = list(x, at, 1);
     match f {
         0 => length(l),
         5 => dst(l, w[10]),
+        6 => dst_read(w, at),
         _ => sewn(f, l, x[1], w[7] == 1, w[8] as u64, w[10]),
     }
 }

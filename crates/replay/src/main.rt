@@ -14,6 +14,7 @@ mod point;
 mod read;
 mod say;
 mod shape;
+mod sheets;
 mod signed;
 
 use libc::STDIN_FILENO;
@@ -32,7 +33,8 @@ fn call(w: &[usize; WORDS], x: &[f64; WORDS], at: &[usize; LISTS]) {
         5 => fill::call(f, w, x, at),
         6 => border::call(f, w, x, at),
         7 => pattern::call(f, w, x, at),
-        _ => job::call(w, at),
+        8 => job::call(w, at),
+        _ => sheets::call(f, w, x, at),
     }
 }
 

@@ -1,5 +1,4 @@
 // A call's words, and the parts of slices that it is given and lent.
-use crate::say::ROOM;
 use leaves::of_bits;
 
 pub const WORDS: usize = 512;
@@ -115,11 +114,18 @@ pub fn lend_bytes<'a>(s: &'a mut [u8], n: usize) -> &'a mut [u8] {
     &mut s[0..n]
 }
 
+pub fn lend_marks<'a>(s: &'a mut [u64], n: usize) -> &'a mut [u64] {
+    if n > s.len() {
+        return &mut s[..0];
+    }
+    &mut s[0..n]
+}
+
 // The bytes that the words are, to the front of `out`; answers how many.
-pub fn bytes(s: &[usize], out: &mut [u8; ROOM]) -> usize {
+pub fn bytes(s: &[usize], out: &mut [u8]) -> usize {
     let mut i = 0;
     while i < s.len() {
-        if i >= ROOM {
+        if i >= out.len() {
             return i;
         }
         out[i] = (s[i] % 256) as u8;

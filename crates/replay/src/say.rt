@@ -11,6 +11,8 @@ pub const ROOM: usize = 256;
 // What stands in every lent place before a call; as a float it has the same bits.
 pub const MARK: usize = 0x123456789abcdef0;
 
+pub const WORD: u64 = 0x123456789abcdef0;
+
 pub const FLOAT: f64 = 5.626349274901198e-221;
 
 pub const BYTE: u8 = 0xa5;
@@ -117,6 +119,22 @@ pub fn bytes(s: &[u8], n: usize) {
             break;
         }
         let v = wide(s[i]);
+        times = next(last, times, v);
+        last = v;
+        i += 1;
+    }
+    end(last, times);
+}
+
+pub fn marks(s: &[u64], n: usize) {
+    let mut last: u64 = 0;
+    let mut times: u64 = 0;
+    let mut i = 0;
+    while i < n {
+        if i >= s.len() {
+            break;
+        }
+        let v = s[i];
         times = next(last, times, v);
         last = v;
         i += 1;

@@ -1,18 +1,64 @@
 //! The sheet book: sheets stored, fetched and removed.
 
+use super::records::{Call, List, Owed};
 use super::{Function, Operands, Outcome, UNTOUCHED, no_tie};
 use crate::book::{self, Sheet, Values};
 use crate::expect::{DONE, LEN, SHRINK, SPACING};
 use crate::inputs::numbers::{beside, outside, plain};
 use crate::ours::book as ours;
 use crate::rng::Rng;
+use std::cell::RefCell;
 
 pub fn functions() -> Vec<Function> {
+    let store = Function::new("book_store", make, owed_store, gave_store, no_tie);
+    let fetch = Function::new("book_fetch", make, owed_fetch, gave_fetch, no_tie);
+    let remove = Function::new("book_remove", make, owed_remove, gave_remove, no_tie);
     vec![
-        Function::new("book_store", make, owed_store, gave_store, no_tie).usually(20_000),
-        Function::new("book_fetch", make, owed_fetch, gave_fetch, no_tie).usually(20_000),
-        Function::new("book_remove", make, owed_remove, gave_remove, no_tie).usually(20_000),
+        store.usually(20_000).timed_on(
+            "book_store, 40 sheets".into(),
+            |_| vec![Timed::new()],
+            |t| book::store(&t.list, SOUGHT, &PLAIN).is_ok(),
+            |t| t.ours(|list| ours::store(list, SOUGHT, floats(&PLAIN), PLAIN.stagger)),
+        ),
+        fetch.usually(20_000).timed_on(
+            "book_fetch, 40 sheets".into(),
+            |_| vec![Timed::new()],
+            |t| book::fetch(&t.list, SOUGHT).is_ok(),
+            |t| ours::fetch(&t.list, SOUGHT, &mut [0.0; 4], &mut 0),
+        ),
+        remove.usually(20_000).timed_on(
+            "book_remove, 40 sheets".into(),
+            |_| vec![Timed::new()],
+            |t| book::remove(&t.list, SOUGHT).is_ok(),
+            |t| t.ours(|list| ours::remove(list, SOUGHT)),
+        ),
     ]
+}
+
+/// A full book of 40 sheets; the one in the middle is sought.
+const SOUGHT: u16 = 120;
+
+struct Timed {
+    list: Vec<u8>,
+    lent: RefCell<Vec<u8>>,
+}
+
+impl Timed {
+    fn new() -> Timed {
+        let sheets: Vec<Sheet> = (100..140).map(|n| sheet(n, &PLAIN)).collect();
+        let list = book::bytes(&sheets);
+        Timed {
+            lent: RefCell::new(list.clone()),
+            list,
+        }
+    }
+
+    /// A change of the same book each time: the Rust makes a new list, ours is lent a copy.
+    fn ours(&self, call: impl FnOnce(&mut [u8]) -> u64) -> u64 {
+        let mut lent = self.lent.borrow_mut();
+        lent.copy_from_slice(&self.list);
+        call(&mut lent)
+    }
 }
 
 /// A list, and what a call is given beside it: `fetch` and `remove` pass over the values.
@@ -351,4 +397,43 @@ fn any(rng: &mut Rng) -> Lent {
         number,
         values: values(rng),
     }
+}
+
+/// The replay list: some of the cut books, values at the ends of their ranges, and small books.
+pub fn replay(list: &mut List) {
+    let first = || {
+        let cuts = (0..CUTS).step_by(17).filter_map(cut);
+        cuts.chain((0..u64::MAX).step_by(7).map_while(edge))
+            .collect::<Vec<Lent>>()
+    };
+    let changes = [
+        ("book_store", 0x90, owed_store as fn(&Lent) -> Left),
+        ("book_remove", 0x92, owed_remove),
+    ];
+    for (name, function, owed) in changes {
+        list.sample(name, 90, first(), any, |l| {
+            let left = owed(l);
+            let after = &left.list[GUARD..GUARD + l.list.len()];
+            let owed = Owed {
+                words: vec![left.answer],
+                slices: vec![after.iter().map(|&b| b.into()).collect()],
+            };
+            Some((call(function, l)?, owed))
+        });
+    }
+    list.sample("book_fetch", 90, first(), any, |l| {
+        let left = owed_fetch(l);
+        let words = [vec![left.answer], left.values.to_vec()].concat();
+        Some((call(0x91, l)?, Owed::of(words)))
+    });
+}
+
+fn call(function: u64, l: &Lent) -> Option<Call> {
+    (l.list.len() <= 180).then(|| Call {
+        function,
+        floats: floats(&l.values).to_vec(),
+        wholes: vec![l.number.into(), l.values.stagger],
+        lists: vec![l.list.iter().map(|&b| b.into()).collect()],
+        ..Call::default()
+    })
 }

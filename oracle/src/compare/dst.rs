@@ -7,9 +7,35 @@ use crate::expect::{self, DONE, LAYOUT, NUMBER, ROOM};
 use crate::inputs::numbers::{beside, coordinate, spoil};
 use crate::ours::machine as ours;
 use crate::rng::Rng;
+use std::cell::RefCell;
 
 pub fn functions() -> Vec<Function> {
-    vec![Function::new("dst", make, owed, gave, no_tie).usually(20_000)]
+    let function = Function::new("dst", make, owed, gave, no_tie).usually(20_000);
+    vec![function.timed_on(
+        "dst, 1000 points".into(),
+        |_| {
+            let points = sewn(1000);
+            let room = dst::file(&points).len();
+            vec![(points, RefCell::new(vec![0; room]))]
+        },
+        |(points, _)| dst::file(points),
+        |(points, lent)| {
+            let mut count = 0;
+            let answer = ours::dst(points, &mut lent.borrow_mut(), &mut count);
+            assert_eq!(answer, DONE);
+            count
+        },
+    )]
+}
+
+/// Points on a wavy ring, for timing: stitches of some 3 mm, and a jump at every hundredth.
+pub fn sewn(points: usize) -> Vec<f64> {
+    let at = |k: usize| {
+        let angle = k as f64 * 0.06;
+        let radius = 500.0 + 40.0 * (7.0 * angle).sin() + if k % 100 == 0 { 300.0 } else { 0.0 };
+        [radius * angle.cos(), radius * angle.sin()]
+    };
+    (0..points).flat_map(at).collect()
 }
 
 struct Stitches {

@@ -1,14 +1,32 @@
 //! Machine files that come back: DST records to points.
 
-use super::dst::any;
+use super::dst::{any, sewn};
+use super::records::{Call, List, Owed};
 use super::{Function, Operands, Outcome, UNTOUCHED, no_tie};
 use crate::dst::{self, Refused};
 use crate::expect::{self, DONE, ROOM};
 use crate::ours::machine as ours;
 use crate::rng::Rng;
+use std::cell::RefCell;
 
 pub fn functions() -> Vec<Function> {
-    vec![Function::new("dst_read", make, owed, gave, no_tie).usually(20_000)]
+    let function = Function::new("dst_read", make, owed, gave, no_tie).usually(20_000);
+    vec![function.timed_on(
+        "dst_read, 1000 points".into(),
+        |_| {
+            let bytes = dst::file(&sewn(1000));
+            let most = bytes.len() / 3;
+            vec![(bytes, RefCell::new((vec![0.0; 2 * most], vec![0; most])))]
+        },
+        |(bytes, _)| dst::read(bytes).is_ok(),
+        |(bytes, lent)| {
+            let (points, marks) = &mut *lent.borrow_mut();
+            let (mut count, mut number) = (0, 0);
+            let answer = ours::dst_read(bytes, points, marks, &mut count, &mut number);
+            assert_eq!(answer, DONE);
+            count
+        },
+    )]
 }
 
 struct File {
@@ -207,4 +225,35 @@ fn generated(rng: &mut Rng) -> Vec<u8> {
         _ => {}
     }
     bytes
+}
+
+/// The replay list of files that come back: cut ones and single records first.
+pub fn replay(list: &mut List) {
+    let first = (0..40)
+        .step_by(3)
+        .chain((40..16_424).step_by(611))
+        .map(single);
+    let roomy = |bytes: Vec<u8>| File {
+        room: bytes.len(),
+        marks: bytes.len() / 2,
+        bytes,
+    };
+    let any = |rng: &mut Rng| make(rng, u64::MAX);
+    list.sample("dst_read", 80, first.map(roomy).collect(), any, |f| {
+        let small = f.bytes.len() <= 128 && f.room <= 128 && f.marks <= 128;
+        small.then_some(())?;
+        let call = Call {
+            function: 0x46,
+            lent: vec![f.room, f.marks],
+            lists: vec![f.bytes.iter().map(|&b| b.into()).collect()],
+            ..Call::default()
+        };
+        let left = owed(f);
+        let inner = |slice: &[u64]| slice[GUARD..slice.len() - GUARD].to_vec();
+        let owed = Owed {
+            words: vec![left.answer, left.count, left.number],
+            slices: vec![inner(&left.points), inner(&left.marks)],
+        };
+        Some((call, owed))
+    });
 }

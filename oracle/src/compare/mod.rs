@@ -565,6 +565,8 @@ pub fn replay() -> List {
         satin::replay,
         patterns::replay,
         dst::replay,
+        dst_read::replay,
+        book::replay,
     ] {
         group(&mut list);
     }

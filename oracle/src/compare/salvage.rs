@@ -3,16 +3,67 @@
 use super::{Function, Operands, Outcome, UNTOUCHED, list, no_tie, simplicity};
 use crate::expect::{self, DONE, LAYOUT, ROOM};
 use crate::inputs::{
+    crests,
     numbers::{beside, coordinate},
     outlines::{self, Outline},
 };
 use crate::ours::salvage::{self as ours, Lent};
 use crate::rng::Rng;
 use crate::salvage;
+use std::cell::RefCell;
 use zigzag::geom::{P, Polyline};
 
 pub fn functions() -> Vec<Function> {
-    vec![Function::new("salvage", make, owed, gave, no_tie)]
+    let mut function = Function::new("salvage", make, owed, gave, no_tie);
+    for (name, fill) in crests::named().into_iter().skip(1) {
+        function = function.timed_on(
+            format!("salvage {name}"),
+            move |rng| vec![Timed::new(rng, fill.outline.rings())],
+            |t| salvage::salvage(&t.rings),
+            Timed::ours,
+        );
+    }
+    vec![function]
+}
+
+/// An outline with twenty faults set in, and the slices that it is lent again and again.
+struct Timed {
+    rings: Vec<Polyline>,
+    outline: Outline,
+    corners: RefCell<Vec<f64>>,
+    wholes: RefCell<[Vec<u64>; 3]>,
+}
+
+impl Timed {
+    fn new(rng: &mut Rng, mut rings: Vec<Polyline>) -> Timed {
+        (0..20).for_each(|_| fault(rng, &mut rings));
+        outlines::truncate(&mut rings);
+        let needs = needs(&salvage::salvage(&rings));
+        Timed {
+            outline: Outline::new(&rings),
+            rings,
+            corners: RefCell::new(vec![0.0; needs[0]]),
+            wholes: RefCell::new([1, 2, 3].map(|k| vec![0; needs[k]])),
+        }
+    }
+
+    fn ours(&self) -> u64 {
+        let [ends, places, reasons] = &mut *self.wholes.borrow_mut();
+        let (mut kept, mut dropped) = (0, 0);
+        let answer = ours::salvage(
+            &self.outline,
+            Lent {
+                corners: &mut self.corners.borrow_mut(),
+                ends,
+                places,
+                reasons,
+                kept: &mut kept,
+                dropped: &mut dropped,
+            },
+        );
+        assert_eq!(answer, DONE);
+        kept
+    }
 }
 
 /// An outline, and how long the four output slices are.

@@ -162,8 +162,8 @@ fn column() -> Function {
 }
 
 /// The underlay of a column; its second count is 1 where the thread ends at the far end.
-fn underlay() -> Function {
-    function(&Calls {
+fn underlay_calls() -> Calls<Column> {
+    Calls {
         name: "underlay",
         small: boundaries::columns,
         large: boundaries::large_columns,
@@ -178,11 +178,30 @@ fn underlay() -> Function {
             };
             ours::underlay(c, work, out, count, far)
         },
-    })
+    }
 }
 
-fn top() -> Function {
-    function(&Calls {
+/// On the borders of one style: an underlay is the same in all.
+fn underlay() -> Function {
+    let calls = underlay_calls();
+    let mut function = function(&calls);
+    let plain = |(_, c): &(String, Column)| c.style == 0 && c.split == 0.0;
+    for (name, given) in borders::columns().into_iter().filter(plain) {
+        function = function.timed_on(
+            format!("underlay of {name}"),
+            move |_| {
+                let original = (given.rails.original(), given.params());
+                vec![Timed::new(&calls, &given, original)]
+            },
+            |t| satin::underlay(&t.original.0, &t.original.1),
+            Timed::ours,
+        );
+    }
+    function
+}
+
+fn top_calls() -> Calls<Top> {
+    Calls {
         name: "top",
         small: boundaries::tops,
         large: boundaries::large_tops,
@@ -197,7 +216,25 @@ fn top() -> Function {
             };
             ours::top(t, work, out, &mut counts[0])
         },
-    })
+    }
+}
+
+fn top() -> Function {
+    let calls = top_calls();
+    let mut function = function(&calls);
+    for (name, column) in borders::columns() {
+        let given = Top { column, far: true };
+        function = function.timed_on(
+            format!("top of {name}"),
+            move |_| {
+                let original = (given.column.rails.original(), given.column.params());
+                vec![Timed::new(&calls, &given, original)]
+            },
+            |t| satin::top(&t.original.0, &t.original.1, t.given.far),
+            Timed::ours,
+        );
+    }
+    function
 }
 
 /// Both halves, the second told what the first says, in place of `column`.
@@ -471,9 +508,9 @@ impl<I: Clone, R> Timed<I, R> {
     fn ours(&self) -> u64 {
         let mut slices = self.slices.borrow_mut();
         let mut lent: Vec<&mut [f64]> = slices.iter_mut().map(|s| &mut s[..]).collect();
-        let mut count = [0];
-        assert_eq!((self.call)(&self.given, &mut lent, &mut count), DONE);
-        count[0]
+        let mut counts = [0; 2];
+        assert_eq!((self.call)(&self.given, &mut lent, &mut counts), DONE);
+        counts[0]
     }
 }
 
