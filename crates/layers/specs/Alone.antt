@@ -1,7 +1,7 @@
 -- Once the table stands, a fill not refused for WORK answers as a lone call with document 01's full need lent does, also when the other is refused. Assumes nothing.
 use Prim.Native.Nat.{ℕ, _*_, _≤_}
 use native.Mathlib.Omega.{arith}
-use mathlib.Core.Path.{_≡_, refl, sym, ap, _∙_}
+use mathlib.Core.Path.{_≡_, refl, sym, _∙_, subst}
 use mathlib.Core.Bool.{Bool, true, false, not, _||_, cond}
 use mathlib.Core.List.{List}
 use lib.Dec.{ltb}
@@ -18,7 +18,7 @@ use Rattle.rules.specs.Fill.{edges, rowNumbers, rowList, tatami, goodSettings, 
 use Rattle.rules.specs.Calls.{sewnFits, tatamiAnswer}
 use Rattle.tatami.specs.Left.{Left, tatamiLeft}
 use Rattle.layers.specs.declared.Layer.{Layer}
-use Rattle.layers.specs.Layers.{tableOf, tableRefusal, layerRoomed, layerRefusal, layerLeft, settingsOf, Slices, twiceLeft}
+use Rattle.layers.specs.Layers.{tableOf, tableRefusal, layerRoomed, layerRefusal, layerLeft, settingsOf, Slices, Twice, twiceLeft}
 
 -- two calls say the same and leave the same outputs
 pub record Same (a b : Left) : Type 0 where
@@ -80,7 +80,7 @@ module _ (corners : List Float) (ends : List ℕ) (rule : FillRule) (g : Setting
       rw (p .outline, p .numbers, p .turn, le-ltb floats (needFloats e i) f, le-ltb wholes (needWholes e i) w)
 
   pub layer-alone : (floats lentFloats : List Float) (wholes lentWholes : List ℕ)
-      → (layerRefusal corners ends rule g stagger upward (length floats) (length wholes) fits ≡ WORK → ⊥)
+      → (layerLeft DONE corners ends rule g stagger upward points stops floats wholes .said .answer ≡ WORK → ⊥)
       → needFloats (length (edges g (rings corners ends))) (length (rowList (rings corners ends) rule g upward)) ≤ length lentFloats
       → needWholes (length (edges g (rings corners ends))) (length (rowList (rings corners ends) rule g upward)) ≤ length lentWholes
       → Same (layerLeft DONE corners ends rule g stagger upward points stops floats wholes) (tatamiLeft corners ends rule g stagger upward points stops lentFloats lentWholes)
@@ -88,3 +88,38 @@ module _ (corners : List Float) (ends : List ℕ) (rule : FillRule) (g : Setting
   layer-alone floats lentFloats wholes lentWholes h f w =
       let n : layerRefusal corners ends rule g stagger upward (length floats) (length wholes) fits ≡ tatamiAnswer corners ends rule g stagger upward (length lentFloats) (length lentWholes) (length points) (length stops) = settled (length floats) (length wholes) h ∙ sym (lone (length lentFloats) (length lentWholes) f w) in
       record { said = rw n; points = rw n; ends = rw n }
+
+-- ---- both
+
+module _ (corners : List Float) (ends : List ℕ) (rule : FillRule) (cosine sine : Float) (first second : Layer) (a b : Slices) (table : List Float) (places : List ℕ)
+    (stands : tableRefusal corners ends cosine sine (length table) (length places) ≡ DONE) where
+  abbrev both : Twice
+  both = twiceLeft corners ends rule cosine sine first second a b table places
+
+  given : (t : Layer) (l : Slices) (lentFloats : List Float) (lentWholes : List ℕ) (n : ℕ) → n ≡ DONE
+      → (layerLeft n corners ends rule (settingsOf t cosine sine) (t .stagger) (t .upward) (l .points) (l .stops) (l .floats) (l .wholes) .said .answer ≡ WORK → ⊥)
+      → needFloats (length (edges (settingsOf t cosine sine) (rings corners ends))) (length (rowList (rings corners ends) rule (settingsOf t cosine sine) (t .upward))) ≤ length lentFloats
+      → needWholes (length (edges (settingsOf t cosine sine) (rings corners ends))) (length (rowList (rings corners ends) rule (settingsOf t cosine sine) (t .upward))) ≤ length lentWholes
+      → Same (layerLeft n corners ends rule (settingsOf t cosine sine) (t .stagger) (t .upward) (l .points) (l .stops) (l .floats) (l .wholes)) (tatamiLeft corners ends rule (settingsOf t cosine sine) (t .stagger) (t .upward) (l .points) (l .stops) lentFloats lentWholes)
+  given t l lentFloats lentWholes n e =
+      subst (λ n. (layerLeft n corners ends rule (settingsOf t cosine sine) (t .stagger) (t .upward) (l .points) (l .stops) (l .floats) (l .wholes) .said .answer ≡ WORK → ⊥)
+      → needFloats (length (edges (settingsOf t cosine sine) (rings corners ends))) (length (rowList (rings corners ends) rule (settingsOf t cosine sine) (t .upward))) ≤ length lentFloats
+      → needWholes (length (edges (settingsOf t cosine sine) (rings corners ends))) (length (rowList (rings corners ends) rule (settingsOf t cosine sine) (t .upward))) ≤ length lentWholes
+      → Same (layerLeft n corners ends rule (settingsOf t cosine sine) (t .stagger) (t .upward) (l .points) (l .stops) (l .floats) (l .wholes)) (tatamiLeft corners ends rule (settingsOf t cosine sine) (t .stagger) (t .upward) (l .points) (l .stops) lentFloats lentWholes)) (sym e)
+      (λ h f w. layer-alone corners ends rule (settingsOf t cosine sine) (t .stagger) (t .upward) (l .points) (l .stops) (table-passes corners ends cosine sine (length table) (length places) stands) (l .floats) lentFloats (l .wholes) lentWholes h f w)
+
+  -- the first fill as a lone call, whatever the second is
+  pub first-alone : (lentFloats : List Float) (lentWholes : List ℕ) → (both .first .said .answer ≡ WORK → ⊥)
+      → needFloats (length (edges (settingsOf first cosine sine) (rings corners ends))) (length (rowList (rings corners ends) rule (settingsOf first cosine sine) (first .upward))) ≤ length lentFloats
+      → needWholes (length (edges (settingsOf first cosine sine) (rings corners ends))) (length (rowList (rings corners ends) rule (settingsOf first cosine sine) (first .upward))) ≤ length lentWholes
+      → Same (both .first) (tatamiLeft corners ends rule (settingsOf first cosine sine) (first .stagger) (first .upward) (a .points) (a .stops) lentFloats lentWholes)
+  unfolding twiceLeft
+  first-alone lentFloats lentWholes h f w = given first a lentFloats lentWholes (tableRefusal corners ends cosine sine (length table) (length places)) stands h f w
+
+  -- the second, whatever the first is
+  pub second-alone : (lentFloats : List Float) (lentWholes : List ℕ) → (both .second .said .answer ≡ WORK → ⊥)
+      → needFloats (length (edges (settingsOf second cosine sine) (rings corners ends))) (length (rowList (rings corners ends) rule (settingsOf second cosine sine) (second .upward))) ≤ length lentFloats
+      → needWholes (length (edges (settingsOf second cosine sine) (rings corners ends))) (length (rowList (rings corners ends) rule (settingsOf second cosine sine) (second .upward))) ≤ length lentWholes
+      → Same (both .second) (tatamiLeft corners ends rule (settingsOf second cosine sine) (second .stagger) (second .upward) (b .points) (b .stops) lentFloats lentWholes)
+  unfolding twiceLeft
+  second-alone lentFloats lentWholes h f w = given second b lentFloats lentWholes (tableRefusal corners ends cosine sine (length table) (length places)) stands h f w
