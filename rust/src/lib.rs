@@ -13,7 +13,7 @@ mod refusal;
 mod room;
 mod satin;
 
-pub use fill::{FillParams, Piece, row_list, tatami};
+pub use fill::{FillParams, Piece, Sewn, row_list, tatami, tatami_twice};
 pub use line::running;
 pub use mending::{Dropped, Reason, salvage};
 pub use pattern::{bounds, clip_inside, cross_stitch};

@@ -4,6 +4,7 @@
 #[rustfmt::skip]
 #[allow(clippy::too_many_arguments, dead_code)]
 unsafe extern "C" {
+    pub fn beahcerot_tatami_twice(corners: *const f64, corners_len: usize, ends: *const usize, ends_len: usize, rule: u64, cosine: f64, sine: f64, spacing: f64, len: f64, inset: f64, pull: f64, stagger: u64, upward: bool, spacing2: f64, len2: f64, inset2: f64, pull2: f64, stagger2: u64, upward2: bool, table: *mut f64, table_len: usize, places: *mut usize, places_len: usize, floats: *mut f64, floats_len: usize, wholes: *mut usize, wholes_len: usize, points: *mut f64, points_len: usize, stops: *mut usize, stops_len: usize, floats2: *mut f64, floats2_len: usize, wholes2: *mut usize, wholes2_len: usize, points2: *mut f64, points2_len: usize, stops2: *mut usize, stops2_len: usize, sections: *mut u64, count: *mut u64, answer2: *mut u64, sections2: *mut u64, count2: *mut u64) -> u64;
     pub fn beahcerot_split_long(line: *const f64, line_len: usize, max: f64, out: *mut f64, out_len: usize, count: *mut u64) -> u64;
     pub fn beahcerot_s_stitch(line: *const f64, line_len: usize, out: *mut f64, out_len: usize, count: *mut u64) -> u64;
     pub fn beahcerot_pairs(a: *const f64, a_len: usize, b: *const f64, b_len: usize, sync: *const f64, sync_len: usize, step: f64, work: *mut f64, work_len: usize, out: *mut f64, out_len: usize, count: *mut u64) -> u64;

@@ -60,6 +60,7 @@ use Rattle.patterns.proofs.clip_inside
 use Rattle.patterns.proofs.cross_stitch
 use Rattle.tatami.proofs.tatami
 use Rattle.tatami.proofs.row_list
+use Rattle.layers.proofs.tatami_twice
 use Rattle.fillroom.proofs.fill_room
 use Rattle.jobs.proofs.job.parse
 use Rattle.desk.proofs.fill_job
@@ -238,6 +239,11 @@ tatami-outcome κs a x y h k = let s = left-parts (one h k) in both (s .0) (λ i
 
 pub row-list-outcome : One row_list.ended row_list.Reads.Learnt
 row-list-outcome κs a x y h k = let s = one h k in λ i. (s i .said, (tt, (tt, (tt, (tt, (tt, (tt, (s i .ys, (s i .rows, (s i .sections, (s i .floats, (s i .wholes, tt))))))))))))
+
+pub tatami-twice-outcome : One tatami_twice.ended tatami_twice.Reads.Learnt
+tatami-twice-outcome κs a x y h k =
+    let s = one h k in
+    λ i. (record { first = s i .first .said; second = s i .second .said }, (tt, (tt, (tt, (tt, (tt, (tt, (tt, (s i .table, (s i .places, (s i .first .points, (s i .first .ends, (s i .first .floats, (s i .first .wholes, (s i .second .points, (s i .second .ends, (s i .second .floats, (s i .second .wholes, tt))))))))))))))))))
 
 pub fill-room-outcome : One fill_room.ended fill_room.Reads.Learnt
 fill-room-outcome κs a x y h k = both (one h k) refl

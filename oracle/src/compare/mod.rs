@@ -14,6 +14,7 @@ mod salvage;
 pub mod satin;
 mod sheet;
 pub mod stroke;
+mod twice;
 
 use crate::rng::Rng;
 use records::List;
