@@ -245,7 +245,7 @@ pub mod stroke {
 pub mod fill {
     use super::raw::{
         beahcerot_fill_job, beahcerot_plain_row_list, beahcerot_plain_tatami, beahcerot_row_list,
-        beahcerot_tatami,
+        beahcerot_tatami, beahcerot_tatami_twice,
     };
     use crate::inputs::fills::Fill;
 
@@ -334,6 +334,69 @@ pub mod fill {
                 out.count,
             )
         }
+    }
+
+    /// Two fills over one table, each with work and outputs of its own: what the
+    /// first answers, and what the second does.
+    pub fn tatami_twice(
+        f: &Fill,
+        second: &Fill,
+        table: Work,
+        work: [Work; 2],
+        out: [Sewn; 2],
+    ) -> [u64; 2] {
+        let (c, e) = (&f.outline.corners, &f.outline.ends);
+        let ([a, b], [x, y]) = (work, out);
+        let mut answer = 0;
+        let first = unsafe {
+            beahcerot_tatami_twice(
+                c.as_ptr(),
+                c.len(),
+                e.as_ptr().cast(),
+                e.len(),
+                f.rule,
+                f.cosine,
+                f.sine,
+                f.spacing,
+                f.len,
+                f.inset,
+                f.pull,
+                f.stagger,
+                f.bottom_up,
+                second.spacing,
+                second.len,
+                second.inset,
+                second.pull,
+                second.stagger,
+                second.bottom_up,
+                table.floats.as_mut_ptr(),
+                table.floats.len(),
+                table.wholes.as_mut_ptr().cast(),
+                table.wholes.len(),
+                a.floats.as_mut_ptr(),
+                a.floats.len(),
+                a.wholes.as_mut_ptr().cast(),
+                a.wholes.len(),
+                x.points.as_mut_ptr(),
+                x.points.len(),
+                x.section_ends.as_mut_ptr().cast(),
+                x.section_ends.len(),
+                b.floats.as_mut_ptr(),
+                b.floats.len(),
+                b.wholes.as_mut_ptr().cast(),
+                b.wholes.len(),
+                y.points.as_mut_ptr(),
+                y.points.len(),
+                y.section_ends.as_mut_ptr().cast(),
+                y.section_ends.len(),
+                x.sections,
+                x.count,
+                &mut answer,
+                y.sections,
+                y.count,
+            )
+        };
+        [first, answer]
     }
 
     /// A job by its bytes, with room for every job's outline.

@@ -1,7 +1,9 @@
 //! Tatami fill, and the row list that it sews.
 
-use crate::raw::{beahcerot_plain_tatami, beahcerot_row_list, beahcerot_tatami};
-use crate::room::{Room, lend};
+use crate::raw::{
+    beahcerot_plain_tatami, beahcerot_row_list, beahcerot_tatami, beahcerot_tatami_twice,
+};
+use crate::room::{DONE, ROOM, Room, WORK, lend};
 use crate::{FillRule, P, Polyline, Refusal, lines, outline};
 
 #[derive(Clone, Debug)]
@@ -135,6 +137,93 @@ fn sewn(
         };
         (answer, lines(&out, &stops[..sections as usize]))
     })
+}
+
+/// What one of two fills over one table came to.
+pub type Sewn = Result<Vec<Polyline>, Refusal>;
+
+/// A light fill beneath a dense one, over one edge table at the first's angle.
+/// One may be refused and the other sewn; the outline's refusal is given to both.
+pub fn tatami_twice(
+    rings: &[Polyline],
+    rule: FillRule,
+    first: &FillParams,
+    second: &FillParams,
+) -> [Sewn; 2] {
+    let (corners, ends) = outline(rings);
+    let both = lend(guess(corners.len()), |room| {
+        let (mut table, mut places) = (vec![0.0; room.work], vec![0; room.work]);
+        let (mut floats, mut wholes) = (vec![0.0; room.work], vec![0; room.work]);
+        let (mut floats2, mut wholes2) = (vec![0.0; room.work], vec![0; room.work]);
+        let (mut out, mut stops) = (vec![0.0; room.out], vec![0; room.out / 4]);
+        let (mut out2, mut stops2) = (vec![0.0; room.out], vec![0; room.out / 4]);
+        let (mut sections, mut count) = (0, 0);
+        let (mut answer2, mut sections2, mut count2) = (0, 0, 0);
+        let answer = unsafe {
+            beahcerot_tatami_twice(
+                corners.as_ptr(),
+                corners.len(),
+                ends.as_ptr(),
+                ends.len(),
+                rule.number(),
+                first.angle.cos(),
+                first.angle.sin(),
+                first.spacing,
+                first.len,
+                first.inset,
+                first.pull,
+                first.stagger.into(),
+                first.bottom_up,
+                second.spacing,
+                second.len,
+                second.inset,
+                second.pull,
+                second.stagger.into(),
+                second.bottom_up,
+                table.as_mut_ptr(),
+                table.len(),
+                places.as_mut_ptr(),
+                places.len(),
+                floats.as_mut_ptr(),
+                floats.len(),
+                wholes.as_mut_ptr(),
+                wholes.len(),
+                out.as_mut_ptr(),
+                out.len(),
+                stops.as_mut_ptr(),
+                stops.len(),
+                floats2.as_mut_ptr(),
+                floats2.len(),
+                wholes2.as_mut_ptr(),
+                wholes2.len(),
+                out2.as_mut_ptr(),
+                out2.len(),
+                stops2.as_mut_ptr(),
+                stops2.len(),
+                &mut sections,
+                &mut count,
+                &mut answer2,
+                &mut sections2,
+                &mut count2,
+            )
+        };
+        let both = [
+            (answer, lines(&out, &stops[..sections as usize])),
+            (answer2, lines(&out2, &stops2[..sections2 as usize])),
+        ];
+        // More is lent as long as either asks for it.
+        let short = [answer, answer2]
+            .into_iter()
+            .find(|n| [WORK, ROOM].contains(n));
+        (short.unwrap_or(DONE), both)
+    });
+    match both {
+        Ok(both) => both.map(|(answer, sewn)| match answer {
+            DONE => Ok(sewn),
+            number => Err(Refusal::of(number)),
+        }),
+        Err(refusal) => [Err(refusal), Err(refusal)],
+    }
 }
 
 /// Every kept piece, in the order met, with the section that sews it.

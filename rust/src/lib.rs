@@ -14,7 +14,9 @@ mod refusal;
 mod room;
 mod satin;
 
-pub use fill::{FillParams, Piece, cross_check, row_list, tatami, tatami_plain};
+pub use fill::{
+    FillParams, Piece, Sewn, cross_check, row_list, tatami, tatami_plain, tatami_twice,
+};
 pub use line::running;
 pub use mending::{Dropped, Reason, salvage};
 pub use pattern::{bounds, clip_inside, cross_stitch};

@@ -5,9 +5,9 @@
 
 use crate::{P, Polyline, Refusal, flat, points};
 
-const DONE: u64 = 0;
-const WORK: u64 = 6;
-const ROOM: u64 = 7;
+pub const DONE: u64 = 0;
+pub const WORK: u64 = 6;
+pub const ROOM: u64 = 7;
 
 /// How much is lent: elements of each working slice, and of each output.
 #[derive(Clone, Copy)]

@@ -96,6 +96,64 @@ fn same(ours: &[Vec<ours::P>], theirs: &[Vec<geom::P>]) {
 
 const ROUNDS: usize = 2000;
 
+/// Settings of a fill, in both forms, at an angle.
+fn params(s: &mut Shapes, angle: f64) -> (ours::FillParams, fill::FillParams) {
+    let p = ours::FillParams {
+        angle,
+        spacing: s.number(1, 30),
+        len: s.number(2, 60),
+        inset: s.number(-3, 3),
+        pull: s.number(-3, 3),
+        stagger: s.below(5) as u32,
+        bottom_up: s.below(2) == 1,
+    };
+    let theirs = fill::FillParams {
+        c: angle.cos(),
+        s: angle.sin(),
+        spacing: p.spacing,
+        len: p.len,
+        inset: p.inset,
+        pull: p.pull,
+        stagger: p.stagger,
+        bottom_up: p.bottom_up,
+    };
+    (p, theirs)
+}
+
+/// Two fills over one table are zigzag's two lone fills; one may be refused.
+#[test]
+fn tatami_twice_is_two_of_zigzags() {
+    let mut s = Shapes(6);
+    let mut points = 0;
+    for round in 0..ROUNDS {
+        let rings = s.rings();
+        let (rule, their_rule) = s.rule();
+        let angle = s.number(-4, 4);
+        let (p, their_p) = params(&mut s, angle);
+        let (mut q, their_q) = params(&mut s, angle);
+        let refused = round % 8 == 0;
+        if refused {
+            q.spacing = 0.0;
+        }
+        let [a, b] = ours::tatami_twice(&rings, rule, &p, &q);
+        let a = a.unwrap();
+        same(
+            &a,
+            &fill::tatami_merged(&all_theirs(&rings), their_rule, &their_p),
+        );
+        points += a.iter().map(|l| l.len()).sum::<usize>();
+        if refused {
+            assert_eq!(b, Err(ours::Refusal::Setting));
+            continue;
+        }
+        same(
+            &b.unwrap(),
+            &fill::tatami_merged(&all_theirs(&rings), their_rule, &their_q),
+        );
+    }
+    assert!(points > 100_000, "only {points} points were compared");
+}
+
 #[test]
 fn tatami_is_zigzags() {
     let mut s = Shapes(1);
@@ -103,25 +161,8 @@ fn tatami_is_zigzags() {
     for _ in 0..ROUNDS {
         let rings = s.rings();
         let (rule, their_rule) = s.rule();
-        let p = ours::FillParams {
-            angle: s.number(-4, 4),
-            spacing: s.number(1, 30),
-            len: s.number(2, 60),
-            inset: s.number(-3, 3),
-            pull: s.number(-3, 3),
-            stagger: s.below(5) as u32,
-            bottom_up: s.below(2) == 1,
-        };
-        let their_p = fill::FillParams {
-            c: p.angle.cos(),
-            s: p.angle.sin(),
-            spacing: p.spacing,
-            len: p.len,
-            inset: p.inset,
-            pull: p.pull,
-            stagger: p.stagger,
-            bottom_up: p.bottom_up,
-        };
+        let angle = s.number(-4, 4);
+        let (p, their_p) = params(&mut s, angle);
         let sewn = ours::tatami(&rings, rule, &p).unwrap();
         same(
             &sewn,

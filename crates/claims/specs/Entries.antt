@@ -46,6 +46,7 @@ use Rattle.exports.proofs.pattern.beahcerot_bounds
 use Rattle.exports.proofs.pattern.beahcerot_clip_inside
 use Rattle.exports.proofs.pattern.beahcerot_cross_stitch
 use Rattle.exports.proofs.fill.beahcerot_tatami
+use Rattle.exports.proofs.beneath.beahcerot_tatami_twice
 use Rattle.exports.proofs.fill.beahcerot_row_list
 use Rattle.exports.proofs.bench.beahcerot_plain_tatami
 use Rattle.exports.proofs.bench.beahcerot_plain_row_list
@@ -213,6 +214,10 @@ plain-tatami-entry κs a x y h k = let s = one h k in λ i. (s i .said .answer, 
 
 pub plain-row-list-entry : One beahcerot_plain_row_list.ended beahcerot_plain_row_list.Reads.Learnt
 plain-row-list-entry κs a x y h k = let s = one h k in λ i. (s i .said .answer, (tt, (tt, (tt, (tt, (tt, (tt, (tt, (tt, (tt, (tt, (tt, (s i .floats, (s i .wholes, (s i .ys, (s i .rows, (s i .sections, (s i .said .pieces, tt))))))))))))))))))
+pub tatami-twice-entry : One beahcerot_tatami_twice.ended beahcerot_tatami_twice.Reads.Learnt
+tatami-twice-entry κs a x y h k =
+    let s = one h k in
+    λ i. (s i .first .said .answer, (tt, (tt, (tt, (tt, (tt, (tt, (tt, (tt, (tt, (tt, (tt, (tt, (tt, (tt, (tt, (tt, (tt, (s i .table, (s i .places, (s i .first .floats, (s i .first .wholes, (s i .first .points, (s i .first .ends, (s i .second .floats, (s i .second .wholes, (s i .second .points, (s i .second .ends, (s i .first .said .sections, (s i .first .said .points, (s i .second .said .answer, (s i .second .said .sections, (s i .second .said .points, tt)))))))))))))))))))))))))))))))))
 
 pub fill-room-entry : One beahcerot_fill_room.ended beahcerot_fill_room.Reads.Learnt
 fill-room-entry κs a x y h k = both (one (h .0) (k .0)) (λ i. (tt, (tt, (tt, (tt, (tt, (tt, (tt, (tt, (tt, (one (h .1) (k .1) i, (one (h .2) (k .2) i, tt))))))))))))

@@ -62,6 +62,7 @@ use Rattle.tatami.proofs.tatami
 use Rattle.tatami.proofs.row_list
 use Rattle.plain.proofs.tatami as plain_tatami
 use Rattle.plain.proofs.row_list as plain_row_list
+use Rattle.layers.proofs.tatami_twice
 use Rattle.fillroom.proofs.fill_room
 use Rattle.jobs.proofs.job.parse
 use Rattle.desk.proofs.fill_job
@@ -249,6 +250,10 @@ plain-tatami-outcome κs a x y h k = let s = left-parts (one h k) in both (s .0)
 
 pub plain-row-list-outcome : One plain_row_list.ended plain_row_list.Reads.Learnt
 plain-row-list-outcome κs a x y h k = let s = one h k in λ i. (s i .said, (tt, (tt, (tt, (tt, (tt, (tt, (s i .ys, (s i .rows, (s i .sections, (s i .floats, (s i .wholes, tt))))))))))))
+pub tatami-twice-outcome : One tatami_twice.ended tatami_twice.Reads.Learnt
+tatami-twice-outcome κs a x y h k =
+    let s = one h k in
+    λ i. (record { first = s i .first .said; second = s i .second .said }, (tt, (tt, (tt, (tt, (tt, (tt, (tt, (s i .table, (s i .places, (s i .first .points, (s i .first .ends, (s i .first .floats, (s i .first .wholes, (s i .second .points, (s i .second .ends, (s i .second .floats, (s i .second .wholes, tt))))))))))))))))))
 
 pub fill-room-outcome : One fill_room.ended fill_room.Reads.Learnt
 fill-room-outcome κs a x y h k = both (one h k) refl

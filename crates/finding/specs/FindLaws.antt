@@ -59,7 +59,7 @@ module _ (corners : List Float) (ends : List ℕ) (t : Plan) where
   pub short-wholes : (floats wholes : ℕ) → wholes < needWholes (length es) pieces → short corners ends t floats wholes ≡ true
   short-wholes floats wholes h = rw (lt-ltb wholes (needWholes (length es) pieces) h) (or-true (ltb floats (needFloats (length es) pieces)))
 
-  alone-count : length (each (λ r. r) (alone corners ends t)) ≡ pieces
+  pub alone-count : length (each (λ r. r) (alone corners ends t)) ≡ pieces
   unfolding rowList
   alone-count = sym (ap length (entries-pieces (rings corners ends) (t .rule) (t .g) _ 0 (alone corners ends t))) ∙ length-map (rowList (rings corners ends) (t .rule) (t .g) (t .upward)) (λ e. e .piece)
 

@@ -16,10 +16,8 @@ use Rattle.sweep.specs.declared.piece.Cut.{Cut}
 use Rattle.sweep.specs.declared.piece.Span.{Span}
 use Rattle.sweep.specs.declared.piece.Crossing.{Crossing}
 use Rattle.sweep.specs.declared.piece.Scan.{Scan}
-use Rattle.sweep.specs.declared.piece.Step.{Step}
-use Rattle.sweep.specs.declared.piece.Step.the-variants.{Found, End}
 use Rattle.sweep.specs.SweptLaws.{cuts-next, cuts-none}
-use Rattle.sweep.specs.Swept.{Crossed, cutEnds, wideSpan, cutsFrom, restOf, passed, Next, Stepped}
+use Rattle.sweep.specs.Swept.{Crossed, cutEnds, wideSpan, cutsFrom, restOf, passed}
 
 -- a crossing at x of direction d is merged with those from place i on
 module _ (es : List Edge) (y : Float) (l : List ℕ) where
@@ -63,10 +61,3 @@ module _ (c : Cut) (es : List Edge) (l : List ℕ) (s : Scan) where
       → ends ≡ ((inside (c .rule) (s .w) && not (inside (c .rule) (s′ .w))) && wideSpan c q)
       → restOf c es l s ≡ keepIf ends q (restOf c es l s′)
   scan-turn {x} h e1 e2 e3 = rw (e3, e2, e1) (rest-next x h)
-
-  -- what a step says, once it is known which
-  pub step-end : {r : Step} → r ≡ End → Stepped c es l s r → restOf c es l s ≡ []
-  step-end e f = rw e at f
-
-  pub step-found : {r : Step} {p : Span} {t : Scan} → r ≡ Found p t → Stepped c es l s r → Next c es l s p t
-  step-found e f = rw e at f

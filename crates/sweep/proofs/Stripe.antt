@@ -1,6 +1,5 @@
 -- The stripe of places through a row, and the rows one after the other. Assumes nothing.
 use Prim.Native.Nat.{ℕ, _+_, _-_, _*_, _≤_, _<_}
-use native.Mathlib.Nat.{mul-le-mul-left}
 use native.Mathlib.Omega.{arith}
 use mathlib.Core.Path.{_≡_, refl, sym, ap, _∙_, subst}
 use mathlib.Core.Bool.{Bool, true, false}
@@ -191,10 +190,6 @@ module _ (w : Rows) (upward : Bool) (rule : FillRule) (g : Settings) (es : List 
             pieces = adding-step (piecePlace e) pieceBlock 3 (λ p. refl) (λ n m. omega arith) these (each (λ l. l) (rowsLeft (s .m) (s .next) a′ (r + 1))) (adding-at (piecePlace e) pieceBlock (ap (each (λ l. l)) left) (v .pieces)) added;
             counts = subst (λ q. Run (drop (4 * e) a₀) (drop (4 * e) a′) 0 q (rowCounts (r + 1) (rowsLeft (s .m) (s .next) a′ (r + 1))) (rowCounts 0 whole)) j (run-step (replicate (length these) r) (rowCounts (r + 1) (rowsLeft (s .m) (s .next) a′ (r + 1))) (run-at (ap (rowCounts r) left) (v .counts)) wrote);
           }
-
--- a fill's pieces are few enough to count
-pub few-pieces : {e r i : ℕ} → e ≤ 1024 → r ≤ 4096 → i ≤ e * r → i ≤ 5000000
-few-pieces {e} {r} h k l = omega (arith, mul-le-mul-left e k)
 
 -- the rows over places that were put in order first
 pub waited-size : {upward : Bool} {es : List Edge} (e : ℕ) (a : List ℕ) {b : List ℕ} → 4 * e ≤ length a → Waited upward es e (take (2 * e) a) b → length (b ++ drop (2 * e) a) ≡ length a

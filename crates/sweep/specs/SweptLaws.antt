@@ -1,5 +1,6 @@
 -- Laws of the sweep's definitions. Assumes nothing.
-use Prim.Native.Nat.{ℕ, suc, _+_, _≤_, _<_}
+use Prim.Native.Nat.{ℕ, suc, _+_, _*_, _≤_, _<_}
+use native.Mathlib.Nat.{mul-le-mul-left}
 use native.Mathlib.Omega.{arith}
 use mathlib.Core.Path.{_≡_, refl, ap, _∙_}
 use mathlib.Core.Bool.{Bool, true, false, cond, not, _&&_}
@@ -26,7 +27,10 @@ use Rattle.edges.specs.Span.{rowNumber}
 use Rattle.sweep.specs.declared.key.Key.{Key}
 use Rattle.sweep.specs.declared.piece.Cut.{Cut}
 use Rattle.sweep.specs.declared.piece.Span.{Span}
-use Rattle.sweep.specs.Swept.{by, ordered, enters, places, cutAt, cutEnds, wideSpan, cutsOf, cutsFrom, cuts, spanBlock, numbers, swept}
+use Rattle.sweep.specs.declared.piece.Scan.{Scan}
+use Rattle.sweep.specs.declared.piece.Step.{Step}
+use Rattle.sweep.specs.declared.piece.Step.the-variants.{Found, End}
+use Rattle.sweep.specs.Swept.{by, ordered, enters, places, cutAt, cutEnds, wideSpan, cutsOf, cutsFrom, restOf, cuts, Next, Stepped, spanBlock, numbers, swept}
 
 pub ordered-length : (key : Key) (es : List Edge) (l : List ℕ) → length (ordered key es l) ≡ length l
 unfolding ordered
@@ -126,3 +130,17 @@ module _ (w : Rows) (upward : Bool) (rule : FillRule) (g : Settings) (es : List 
   pub swept-none : w .n ≤ r → swept upward rule g es active wait (numbers w upward r) ≡ []
   unfolding swept
   swept-none h = rw (numbers-none w upward r h)
+
+-- ---- a step of a scan
+
+module _ (c : Cut) (es : List Edge) (l : List ℕ) (s : Scan) where
+  -- what a step says, once it is known which
+  pub step-end : {r : Step} → r ≡ End → Stepped c es l s r → restOf c es l s ≡ []
+  step-end e f = rw e at f
+
+  pub step-found : {r : Step} {p : Span} {t : Scan} → r ≡ Found p t → Stepped c es l s r → Next c es l s p t
+  step-found e f = rw e at f
+
+-- a fill's pieces are few enough to count
+pub few-pieces : {e r i : ℕ} → e ≤ 1024 → r ≤ 4096 → i ≤ e * r → i ≤ 5000000
+few-pieces {e} {r} h k l = omega (arith, mul-le-mul-left e k)

@@ -167,6 +167,7 @@ pub fn next_piece(floats: &[f64], e: usize, places: &[usize], c: Cut, from: Scan
     Step::End
 }
 
+// A piece at k, if there is room.
 pub fn put_piece(floats: &mut [f64], k: usize, y: f64, p: Span)
     requires { ⌜ k ≤ 1000000000 ⌝ }
     ensures { λ _. ⌜ Wrote (now (floats .entry)) (now (floats .exit)) k (spanBlock y p) ⌝ }

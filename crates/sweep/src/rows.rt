@@ -20,6 +20,7 @@ use leaves::larger;
 use outlines::FillRule;
 use rules::Settings;
 
+// What row r, in the order met, asks of its pieces.
 pub fn cut_at(rule: FillRule, g: Settings, upward: bool, w: Rows, r: usize) -> Cut
     requires { ⌜ Spanned w × (r < w .n) ⌝ }
     ensures { λ c. ⌜ c ≡ cutAt rule g (rowNumber w upward r) ⌝ }

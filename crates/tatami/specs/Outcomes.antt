@@ -33,12 +33,12 @@ pub front-is : {A : Type 0} (m m′ d : List A) (k : ℕ) {x : List A} → m ≡
 front-is m m′ d k e l h = h ∙ ap (λ j. m ++ drop j d) (sym l) ∙ ap (λ y. y ++ drop (length y) d) e
 
 -- a slice of zeros, by its length
-zeroed : {A : Type 0} (z : A) {d d′ : List A} (l : List A) → Zeroed z d d′ → length d′ ≡ length l → d′ ≡ replicate (length l) z
+pub zeroed : {A : Type 0} (z : A) {d d′ : List A} (l : List A) → Zeroed z d d′ → length d′ ≡ length l → d′ ≡ replicate (length l) z
 zeroed z {d} l e h = e .is ∙ ap (λ n. replicate n z) (sym (length-replicate (length d) z) ∙ ap length (sym (e .is)) ∙ h)
 
 -- a refusal of the gate is the answer, whatever comes after; and what comes after is the answer where the gate lets it through
 module _ (corners : List Float) (ends : List ℕ) (g : Settings) (stagger : ℕ) where
-  stopped : (n rest : ℕ) → gate corners ends g stagger DONE ≡ n → 1 ≤ n → gate corners ends g stagger rest ≡ n
+  pub stopped : (n rest : ℕ) → gate corners ends g stagger DONE ≡ n → 1 ≤ n → gate corners ends g stagger rest ≡ n
   stopped zero rest e h = absurd (omega arith)
   stopped (suc n) rest e h = gate-stop corners ends g stagger rest n e
 

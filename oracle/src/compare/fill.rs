@@ -15,7 +15,7 @@ use std::cell::RefCell;
 use zigzag::fill::{FillParams, row_list, tatami};
 use zigzag::geom::{FillRule, Polyline};
 
-const EQUAL_CROSSINGS: &str = "equal crossings";
+pub(super) const EQUAL_CROSSINGS: &str = "equal crossings";
 
 pub fn functions() -> Vec<Function> {
     let sew = function("tatami", owed::tatami_need, 4, owed::tatami, tatami_left);
@@ -26,7 +26,11 @@ pub fn functions() -> Vec<Function> {
         owed::row_list,
         row_list_left,
     );
-    vec![timed_tatami(sew), timed_row_list(list)]
+    vec![
+        timed_tatami(sew),
+        timed_row_list(list),
+        super::twice::function(),
+    ]
 }
 
 /// A fill, and how many words it is lent in each slice: floats, wholes, outputs.
@@ -138,7 +142,7 @@ fn make(rng: &mut Rng, call: usize, need: Need, slices: usize) -> Call {
 }
 
 /// Slices as they are lent, of the one kind and of the other.
-fn floats(words: usize) -> Vec<f64> {
+pub(super) fn floats(words: usize) -> Vec<f64> {
     fresh(words).into_iter().map(f64::from_bits).collect()
 }
 
@@ -146,12 +150,12 @@ fn signed(words: usize) -> Vec<i64> {
     fresh(words).into_iter().map(|w| w as i64).collect()
 }
 
-fn lent<T>(slice: &mut [T]) -> &mut [T] {
+pub(super) fn lent<T>(slice: &mut [T]) -> &mut [T] {
     let behind = slice.len() - MARGIN;
     &mut slice[MARGIN..behind]
 }
 
-fn bits(slice: Vec<f64>) -> Vec<u64> {
+pub(super) fn bits(slice: Vec<f64>) -> Vec<u64> {
     slice.into_iter().map(f64::to_bits).collect()
 }
 

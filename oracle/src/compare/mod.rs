@@ -16,6 +16,7 @@ mod salvage;
 pub mod satin;
 mod sheet;
 pub mod stroke;
+mod twice;
 
 use crate::rng::Rng;
 use records::List;

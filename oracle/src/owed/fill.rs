@@ -130,7 +130,13 @@ fn sewn(f: &Fill, lent: &[usize], equal: Equal, engine: Engine) -> Left {
     if !fits(&work(f, pieces.len(), engine), &lent[..2]) {
         return refused(WORK);
     }
-    if 2 * points_at_least(&pieces, f.len) > lent[2] as u64 {
+    sewn(f, &pieces, lent, equal)
+}
+
+/// The same once the working slices are long enough.
+fn sewn(f: &Fill, pieces: &[Piece], lent: &[usize], equal: Equal) -> Left {
+    let refused = |answer| left(answer, lent, WORKING, vec![0; 2], &[]);
+    if 2 * points_at_least(pieces, f.len) > lent[2] as u64 {
         return refused(ROOM);
     }
     let mut points = Vec::new();
@@ -144,6 +150,54 @@ fn sewn(f: &Fill, lent: &[usize], equal: Equal, engine: Engine) -> Left {
     }
     let counts = vec![ends.len() as u64, points.len() as u64 / 2];
     left(DONE, lent, WORKING, counts, &[points, ends])
+}
+
+/// What two fills over one table owe (request [6]): the table is lent floats and
+/// whole numbers, and then each fill as `tatami` is. The counts are the first
+/// fill's, then the second's with its answer in front.
+pub fn tatami_twice(f: &Fill, second: &Fill, lent: &[usize], equal: Equal) -> Left {
+    let table = table(f, &lent[..2]);
+    let own = left(table, &lent[..2], WORKING, Vec::new(), &[]);
+    let a = layer(f, table, &lent[2..6], equal);
+    let b = layer(second, table, &lent[6..], equal);
+    Left {
+        answer: a.answer,
+        counts: [a.counts, vec![b.answer], b.counts].concat(),
+        slices: [own.slices, a.slices, b.slices].concat(),
+    }
+}
+
+/// For the table 1, 2, 4 and 6: 6E floats and 4E whole numbers.
+fn table(f: &Fill, lent: &[usize]) -> u64 {
+    let o = &f.outline;
+    let first = expect::first(&[
+        (LAYOUT, expect::outline(&o.corners, &o.ends)),
+        (NUMBER, expect::numbers(&o.corners)),
+        (TURN, expect::turn(f.cosine, f.sine)),
+    ]);
+    if first != DONE {
+        return first;
+    }
+    let edges = kept(f).len();
+    expect::first(&[(WORK, fits(&[6 * edges, 4 * edges], lent))])
+}
+
+/// One fill over a table with that answer: 3, 5, 6 (4I and 6I) and 7.
+fn layer(f: &Fill, table: u64, lent: &[usize], equal: Equal) -> Left {
+    let refused = |answer| left(answer, lent, WORKING, vec![0; 2], &[]);
+    if table != DONE {
+        return refused(table);
+    }
+    let first = gate(f);
+    if first != DONE {
+        return refused(first);
+    }
+    let pieces = pieces(f, equal);
+    let n = pieces.len();
+    if !fits(&[4 * n, 6 * n], &lent[..2]) {
+        return refused(WORK);
+    }
+    sewn(f, &pieces, lent, equal)
 }
 
 /// What `row_list` owes where it is lent floats, wholes, floats for y, xa and
@@ -217,6 +271,20 @@ fn sewn_need(f: &Fill, engine: Engine) -> Option<Vec<usize>> {
     let sections = sections(f, Equal::Merged);
     let points: usize = sections.iter().map(Vec::len).sum();
     Some(vec![floats, wholes, 2 * points, sections.len()])
+}
+
+/// What two fills over one table need of each slice: some words where one is
+/// refused whatever it is lent.
+pub fn twice_need(f: &Fill, second: &Fill) -> Vec<usize> {
+    let table = match table(f, &[usize::MAX; 2]) {
+        DONE => kept(f).len(),
+        _ => 1,
+    };
+    let own = |f: &Fill| match tatami_need(f) {
+        Some(need) => vec![need[0] - 6 * table, need[1] - 4 * table, need[2], need[3]],
+        None => vec![5, 6, 7, 8],
+    };
+    [vec![6 * table, 4 * table], own(f), own(second)].concat()
 }
 
 /// The same of `row_list`.

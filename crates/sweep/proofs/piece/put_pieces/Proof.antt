@@ -8,7 +8,7 @@ use Rattle.seqs.specs.Adding.{Adding, adding-start, adding-at, adding-step, add
 use Rattle.edges.specs.Table.{edgesIn}
 use Rattle.edges.specs.TableLaws.{in-kept}
 use Rattle.sweep.specs.Swept.{restOf, cuts, spanBlock, piecePlace}
-use Rattle.sweep.proofs.Scans.{step-end, step-found}
+use Rattle.sweep.specs.SweptLaws.{step-end, step-found}
 use borrow.Author.Needs.{needs}
 use Rattle.sweep.proofs.piece.put_pieces.Statement.{statement}
 use Rattle.sweep.proofs.piece.put_pieces.Tie as tie

@@ -5,7 +5,8 @@ use lib.ListN.{take}
 use Rattle.edges.specs.Table.{edgesIn}
 use Rattle.edges.specs.TableLaws.{in-kept}
 use Rattle.sweep.specs.Swept.{swept, numbers, piecePlace}
-use Rattle.sweep.proofs.Stripe.{few-pieces, Sweeping, sweeping-start, sweeping-step, sweeping-end}
+use Rattle.sweep.specs.SweptLaws.{few-pieces}
+use Rattle.sweep.proofs.Stripe.{Sweeping, sweeping-start, sweeping-step, sweeping-end}
 use borrow.Author.Needs.{needs}
 use Rattle.sweep.proofs.rows.all_rows.Statement.{statement}
 use Rattle.sweep.proofs.rows.all_rows.Tie as tie

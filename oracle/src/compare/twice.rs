@@ -1,0 +1,150 @@
+//! Two fills over one table (request [6]).
+
+use super::fill::{EQUAL_CROSSINGS, bits, floats, lent};
+use super::{Function, Operands, Tie, list, simplicity};
+use crate::inputs::boundaries::boundaries;
+use crate::inputs::fills::{self, Fill, lend, ways};
+use crate::ours::fill as ours;
+use crate::owed::fill::{self as owed, Equal};
+use crate::owed::{Left, MARK, fresh};
+use crate::rng::Rng;
+
+/// The table's two slices, and four for each fill.
+const SLICES: usize = 10;
+
+/// The second has the first's outline, rule and angle.
+struct Call {
+    first: Fill,
+    second: Fill,
+    lent: Vec<usize>,
+}
+
+impl Operands for Call {
+    fn size(&self) -> (usize, u64) {
+        let (f, g) = (&self.first, &self.second);
+        let numbers = [f.spacing, f.len, f.inset, f.pull, f.cosine, f.sine];
+        let others = [g.spacing, g.len, g.inset, g.pull];
+        let all = f.outline.corners.iter().chain(&numbers).chain(&others);
+        (
+            f.outline.corners.len() / 2 + f.outline.ends.len(),
+            all.copied().map(simplicity).sum::<u64>() + f.stagger.min(1000) + g.stagger.min(1000),
+        )
+    }
+    fn show(&self) -> String {
+        let (f, g) = (&self.first, &self.second);
+        format!(
+            "corners {} ends {:x?} rule {:x} cosine, sine {} spacing, len, inset, pull {} stagger {:x} bottom_up {}, then {} stagger {:x} bottom_up {} lent {:?}",
+            list(&f.outline.corners),
+            f.outline.ends,
+            f.rule,
+            list(&[f.cosine, f.sine]),
+            list(&[f.spacing, f.len, f.inset, f.pull]),
+            f.stagger,
+            f.bottom_up,
+            list(&[g.spacing, g.len, g.inset, g.pull]),
+            g.stagger,
+            g.bottom_up,
+            self.lent
+        )
+    }
+}
+
+pub fn function() -> Function {
+    let tie = |c: &Call| -> Tie<Left> {
+        (owed::tied(&c.first) || owed::tied(&c.second)).then(|| {
+            let owed = owed::tatami_twice(&c.first, &c.second, &c.lent, Equal::Merged);
+            (EQUAL_CROSSINGS, owed)
+        })
+    };
+    Function::new(
+        "tatami_twice",
+        |rng, n| make(rng, n as usize),
+        |c: &Call| owed::tatami_twice(&c.first, &c.second, &c.lent, Equal::Original),
+        twice_left,
+        tie,
+    )
+    .usually(20_000)
+}
+
+/// The boundaries first, each beneath any fill and lent in every way, and then any two.
+fn make(rng: &mut Rng, call: usize) -> Call {
+    let ways = ways(SLICES);
+    let (first, way) = match boundaries().get(call / ways) {
+        Some(fill) => (fill.clone(), call % ways),
+        // The first three ways are enough for every call.
+        None if rng.one_in(2) => (fills::any(rng), rng.index(3)),
+        None => (fills::any(rng), rng.index(ways)),
+    };
+    let own = fills::any(rng);
+    let second = Fill {
+        outline: first.outline.clone(),
+        rule: first.rule,
+        cosine: first.cosine,
+        sine: first.sine,
+        ..own
+    };
+    Call {
+        lent: lend(way, &owed::twice_need(&first, &second)),
+        first,
+        second,
+    }
+}
+
+/// What our two fills leave.
+fn twice_left(c: &Call) -> Left {
+    let n = &c.lent;
+    let (mut table, mut places) = (floats(n[0]), fresh(n[1]));
+    let (mut work, mut wholes) = (floats(n[2]), fresh(n[3]));
+    let (mut points, mut ends) = (floats(n[4]), fresh(n[5]));
+    let (mut work2, mut wholes2) = (floats(n[6]), fresh(n[7]));
+    let (mut points2, mut ends2) = (floats(n[8]), fresh(n[9]));
+    let [mut sections, mut count, mut sections2, mut count2] = [MARK; 4];
+    let [answer, answer2] = ours::tatami_twice(
+        &c.first,
+        &c.second,
+        ours::Work {
+            floats: lent(&mut table),
+            wholes: lent(&mut places),
+        },
+        [
+            ours::Work {
+                floats: lent(&mut work),
+                wholes: lent(&mut wholes),
+            },
+            ours::Work {
+                floats: lent(&mut work2),
+                wholes: lent(&mut wholes2),
+            },
+        ],
+        [
+            ours::Sewn {
+                points: lent(&mut points),
+                section_ends: lent(&mut ends),
+                sections: &mut sections,
+                count: &mut count,
+            },
+            ours::Sewn {
+                points: lent(&mut points2),
+                section_ends: lent(&mut ends2),
+                sections: &mut sections2,
+                count: &mut count2,
+            },
+        ],
+    );
+    Left {
+        answer,
+        counts: vec![sections, count, answer2, sections2, count2],
+        slices: vec![
+            bits(table),
+            places,
+            bits(work),
+            wholes,
+            bits(points),
+            ends,
+            bits(work2),
+            wholes2,
+            bits(points2),
+            ends2,
+        ],
+    }
+}
