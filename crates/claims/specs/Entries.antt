@@ -214,6 +214,7 @@ plain-tatami-entry κs a x y h k = let s = one h k in λ i. (s i .said .answer, 
 
 pub plain-row-list-entry : One beahcerot_plain_row_list.ended beahcerot_plain_row_list.Reads.Learnt
 plain-row-list-entry κs a x y h k = let s = one h k in λ i. (s i .said .answer, (tt, (tt, (tt, (tt, (tt, (tt, (tt, (tt, (tt, (tt, (tt, (s i .floats, (s i .wholes, (s i .ys, (s i .rows, (s i .sections, (s i .said .pieces, tt))))))))))))))))))
+
 pub tatami-twice-entry : One beahcerot_tatami_twice.ended beahcerot_tatami_twice.Reads.Learnt
 tatami-twice-entry κs a x y h k =
     let s = one h k in

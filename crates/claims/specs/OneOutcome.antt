@@ -250,6 +250,7 @@ plain-tatami-outcome κs a x y h k = let s = left-parts (one h k) in both (s .0)
 
 pub plain-row-list-outcome : One plain_row_list.ended plain_row_list.Reads.Learnt
 plain-row-list-outcome κs a x y h k = let s = one h k in λ i. (s i .said, (tt, (tt, (tt, (tt, (tt, (tt, (s i .ys, (s i .rows, (s i .sections, (s i .floats, (s i .wholes, tt))))))))))))
+
 pub tatami-twice-outcome : One tatami_twice.ended tatami_twice.Reads.Learnt
 tatami-twice-outcome κs a x y h k =
     let s = one h k in
