@@ -1,0 +1,3 @@
+-- What a meander is (Meander), and what is proved of it.
+pub mod Meander
+pub mod Ks
