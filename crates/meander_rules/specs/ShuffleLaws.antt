@@ -55,10 +55,14 @@ module _ (l : List ℕ) (i j : ℕ) where
       ]
     ]
 
-pub shuffle-from-length : (i : ℕ) (l : List ℕ) (seed : ℕ) → length (shuffleFrom i l seed .order) ≡ length l
+shuffle-from-length : (i : ℕ) (l : List ℕ) (seed : ℕ) → length (shuffleFrom i l seed .order) ≡ length l
 unfolding shuffleFrom
 shuffle-from-length zero l seed = refl
 shuffle-from-length (suc i) l seed = shuffle-from-length i (swap l (suc i) (nextSeed seed % (i + 2))) (nextSeed seed) ∙ swap-length l (suc i) (nextSeed seed % (i + 2))
+
+pub shuffle-length : (l : List ℕ) (seed : ℕ) → length (shuffle l seed .order) ≡ length l
+unfolding shuffle
+shuffle-length l seed = shuffle-from-length (length l - 1) l seed
 
 shuffle-from-stands : {a : ℕ} (i : ℕ) (l : List ℕ) (seed : ℕ) → i < length l → Stands a l → Stands a (shuffleFrom i l seed .order)
 unfolding shuffleFrom

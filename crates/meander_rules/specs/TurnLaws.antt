@@ -1,12 +1,12 @@
 -- A turn of a walk: what it keeps, and that every turn uses up a point or a place of the stack. Assumes nothing.
 use Prim.Native.Nat.{ℕ, zero, suc, _+_, _*_, _≤_}
 use native.Mathlib.Omega.{arith}
-use mathlib.Core.Path.{_≡_, refl, sym, ap, _∙_}
+use mathlib.Core.Path.{_≡_, refl, sym, ap, _∙_, subst}
 use mathlib.Core.Bool.{Bool, true, false, _&&_}
 use mathlib.Core.Logic.{_⊎_, inl, inr}
-use mathlib.Core.List.{List, [], _∷_, _++_, List·Memᴰ, List·Memᴰ·head, List·Memᴰ·tail, List·Memᴰ·not-nil, List·Memᴰ·cases-cons, Memᴰ·append-left, Memᴰ·append-right}
+use mathlib.Core.List.{List, [], _∷_, _++_, append-assoc, List·Memᴰ, List·Memᴰ·head, List·Memᴰ·tail, List·Memᴰ·not-nil, List·Memᴰ·cases-cons, Memᴰ·append-left, Memᴰ·append-right}
 use lib.Dec.{eqb}
-use lib.ListN.{length, take, set, length-set}
+use lib.ListN.{length, take, drop, set}
 use borrow.Author.Tests.{eqb-true}
 use Rattle.seqs.specs.Lists.{sift, All}
 use Rattle.seqs.specs.Sift.{sift-in, sift-pass}
@@ -79,28 +79,74 @@ module _ (g : Lattice) (link : ℕ → ℕ → Bool) where
   move-less free stack path here seed order [] e = omega arith
   move-less free stack path here seed order (n ∷ ways) e = omega (arith, ones-taken free n (way-open free here order e .0))
 
-  from-over : (w : Walk) → w .stack ≡ [] → turn g link w ≡ w
+  from-less : (free stack path : List ℕ) (here seed : ℕ) → left (turn g link (record { free = free; stack = here ∷ stack; path = path; seed = seed })) + 1 ≡ left (record { free = free; stack = here ∷ stack; path = path; seed = seed })
   unfolding turn turnFrom
-  from-over w e = rw e
+  from-less free stack path here seed = let s = shuffle (neighbours g here) seed in move-less free stack path here (s .seed) (s .order) (openWay link free here (s .order)) refl
 
-  over : (m : ℕ) (w : Walk) → w .stack ≡ [] → turns g link m w .stack ≡ []
+  -- a turn uses one up
+  pub turn-less : (w : Walk) (here : ℕ) (stack : List ℕ) → w .stack ≡ here ∷ stack → left (turn g link w) + 1 ≡ left w
+  turn-less w here stack e = subst (λ (s : List ℕ). left (turn g link (record { free = w .free; stack = s; path = w .path; seed = w .seed })) + 1 ≡ left (record { free = w .free; stack = s; path = w .path; seed = w .seed })) (sym e) (from-less (w .free) stack (w .path) here (w .seed))
+
+  turn-over : (w : Walk) → w .stack ≡ [] → turn g link w ≡ w
+  unfolding turn turnFrom
+  turn-over w e = rw e
+
+  -- with an empty stack nothing happens any more
+  pub turns-over : (m : ℕ) (w : Walk) → w .stack ≡ [] → turns g link m w ≡ w
   unfolding turns
-  over zero w e = e
-  over (suc m) w e = ap (λ v. turns g link m v .stack) (from-over w e) ∙ over m w e
+  turns-over zero w e = refl
+  turns-over (suc m) w e = ap (turns g link m) (turn-over w e) ∙ turns-over m w e
 
-  turns-from : (m : ℕ) (free stack path : List ℕ) (seed : ℕ) → left (record { free = free; stack = stack; path = path; seed = seed }) ≤ suc m
-      → ((w : Walk) → left w ≤ m → turns g link m w .stack ≡ []) → turns g link m (turn g link (record { free = free; stack = stack; path = path; seed = seed })) .stack ≡ []
-  unfolding turn turnFrom
-  turns-from m free [] path seed h ih = over m (record { free = free; stack = []; path = path; seed = seed }) refl
-  turns-from m free (here ∷ stack) path seed h ih =
-      let s = shuffle (neighbours g here) seed in
-      ih (move (openWay link free here (s .order)) (record { free = free; stack = here ∷ stack; path = path; seed = s .seed })) (omega (arith, move-less free stack path here (s .seed) (s .order) (openWay link free here (s .order)) refl))
+  pub turns-next : (m : ℕ) (w : Walk) → turns g link (m + 1) w ≡ turns g link m (turn g link w)
+  unfolding turns
+  turns-next m w = let e : m + 1 ≡ suc m = omega arith in rw e
 
   none-left : (s : List ℕ) → length s ≤ 0 → s ≡ []
   none-left [] h = refl
   none-left (a ∷ s) h = absurd (omega arith)
 
+  -- more turns than are left are none more
+  more-from : (m : ℕ) (w : Walk) (stack : List ℕ) → w .stack ≡ stack → left w ≤ suc m → ((v : Walk) → left v ≤ m → turns g link m v ≡ turns g link (left v) v) → turns g link (suc m) w ≡ turns g link (left w) w
+  unfolding turns
+  more-from m w [] e h ih = turns-over (suc m) w e ∙ sym (turns-over (left w) w e)
+  more-from m w (here ∷ stack) e h ih =
+      let l = turn-less w here stack e in
+      ih (turn g link w) (omega (arith, l)) ∙ sym (turns-next (left (turn g link w)) w) ∙ ap (λ k. turns g link k w) l
+
+  pub turns-more : (m : ℕ) (w : Walk) → left w ≤ m → turns g link m w ≡ turns g link (left w) w
+  turns-more zero w h = let e : left w ≡ 0 = omega arith in rw e
+  turns-more (suc m) w h = more-from m w (w .stack) refl h (turns-more m)
+
+  -- by then the stack is empty
+  end-from : (m : ℕ) (w : Walk) (stack : List ℕ) → w .stack ≡ stack → left w ≤ suc m → ((v : Walk) → left v ≤ m → turns g link m v .stack ≡ []) → turns g link (suc m) w .stack ≡ []
+  unfolding turns
+  end-from m w [] e h ih = ap (λ (v : Walk). v .stack) (turns-over (suc m) w e) ∙ e
+  end-from m w (here ∷ stack) e h ih = ih (turn g link w) (omega (arith, turn-less w here stack e))
+
   pub turns-end : (m : ℕ) (w : Walk) → left w ≤ m → turns g link m w .stack ≡ []
   unfolding turns
   turns-end zero w h = none-left (w .stack) (omega (arith, h))
-  turns-end (suc m) w h = turns-from m (w .free) (w .stack) (w .path) (w .seed) h (turns-end m)
+  turns-end (suc m) w h = end-from m w (w .stack) refl h (turns-end m)
+
+  -- ---- what stands on the path already doesn't matter
+
+  -- the walk with q before its path
+  abbrev pub behind : List ℕ → Walk → Walk
+  behind q w = record { free = w .free; stack = w .stack; path = q ++ w .path; seed = w .seed }
+
+  move-behind : (q ways : List ℕ) (w : Walk) → move ways (behind q w) ≡ behind q (move ways w)
+  unfolding move goBack goOn
+  move-behind q [] w = rw (append-assoc q (w .path) (take 1 (drop 1 (w .stack))))
+  move-behind q (n ∷ ways) w = rw (append-assoc q (w .path) (n ∷ []))
+
+  from-behind : (q stack : List ℕ) (w : Walk) → turnFrom g link stack (behind q w) ≡ behind q (turnFrom g link stack w)
+  unfolding turnFrom
+  from-behind q [] w = refl
+  from-behind q (here ∷ stack) w =
+      let s = shuffle (neighbours g here) (w .seed) in
+      move-behind q (openWay link (w .free) here (s .order)) (record { free = w .free; stack = w .stack; path = w .path; seed = s .seed })
+
+  pub turns-behind : (m : ℕ) (q : List ℕ) (w : Walk) → turns g link m (behind q w) ≡ behind q (turns g link m w)
+  unfolding turns turn
+  turns-behind zero q w = refl
+  turns-behind (suc m) q w = ap (turns g link m) (from-behind q (w .stack) w) ∙ turns-behind m q (turnFrom g link (w .stack) w)
