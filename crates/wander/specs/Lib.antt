@@ -4,3 +4,5 @@ pub mod SliceLaws
 pub mod WayLaws
 pub mod MarkLaws
 pub mod OpenLaws
+pub mod TurnSlices
+pub mod RoundLaws

@@ -1,17 +1,14 @@
 -- The first way that is open, found one after the other. Assumes nothing.
 use Prim.Native.Nat.{ℕ, zero, suc, _+_, _≤_, _<_}
 use native.Mathlib.Omega.{arith}
-use mathlib.Core.Path.{_≡_, refl, sym, ap, _∙_}
+use mathlib.Core.Path.{_≡_, refl, sym, _∙_}
 use mathlib.Core.Bool.{Bool, true, false, _&&_}
-use mathlib.Core.List.{List, [], _∷_, _++_}
-use lib.ListN.{length, take, drop, getD}
-use lib.Seq.{take-at}
+use mathlib.Core.List.{List, [], _∷_}
+use lib.ListN.{length, drop, getD}
 use borrow.Author.Tests.{lt-ltb, le-ltb}
 use Rattle.seqs.specs.Front.{next, none}
 use Rattle.seqs.specs.Tests.{clash}
-use Rattle.meander_rules.specs.declared.Lattice.{Lattice}
-use Rattle.meander_rules.specs.Meander.{isFree, openWay, shuffle, neighbours}
-use Rattle.meander_rules.specs.ShuffleLaws.{shuffle-length}
+use Rattle.meander_rules.specs.Meander.{isFree, openWay}
 use Rattle.wander.specs.Walking.{found}
 
 -- a free point is a point of the grid
@@ -39,7 +36,3 @@ module _ (link : ℕ → ℕ → Bool) (free : List ℕ) (here : ℕ) (ways : Li
   pub way-none : length ways ≤ i → openWay link free here (drop i ways) ≡ []
   unfolding openWay
   way-none h = rw (none ways i h)
-
--- the shuffled ways in the front of an array
-pub in-front : (ways : List ℕ) (g : Lattice) (here m seed : ℕ) → m ≡ length (neighbours g here) → take m (shuffle (neighbours g here) seed .order ++ drop m ways) ≡ shuffle (neighbours g here) seed .order
-in-front ways g here m seed e = take-at (shuffle (neighbours g here) seed .order) (drop m ways) m (shuffle-length (neighbours g here) seed ∙ sym e)
