@@ -9,12 +9,13 @@ use lib.ListN.{length, getD, take, drop, set, length-set, length-append, length-
 use lib.Seq.{length-take-le, take-at, drop-at, take-append-le, take-take, take-set-le, drop-set-add, drop-set-lt, take-suc-set}
 use native.Mathlib.Numerals.{add-one}
 use borrow.Author.Tests.{eqb-true, eq-eqb, leb-true, le-leb}
-use Rattle.seqs.specs.Lists.{All}
+use Rattle.seqs.specs.Lists.{upto, fold}
+use Rattle.seqs.specs.Upto.{upto-next}
 use Rattle.seqs.specs.Tests.{and-both}
-use Rattle.seqs.specs.Reads.{drop-take, part-on, part-none, take-on}
+use Rattle.seqs.specs.Reads.{fuel-none, drop-take, part-on, part-none}
 use Rattle.geom.specs.Outline.{cut, rising}
 use Rattle.meander_rules.specs.declared.Lattice.{Lattice}
-use Rattle.meander_rules.specs.Meander.{Walk, Walks, pointsOf, isFree, goOn, turns, walkFrom, walked, startAt}
+use Rattle.meander_rules.specs.Meander.{Walk, Walks, pointsOf, mostPoints, isFree, goOn, walkFrom, walked, startAt, walksOf}
 use Rattle.meander_rules.specs.FreeLaws.{ones, ones-few, ones-taken}
 use Rattle.meander_rules.specs.TurnLaws.{left, behind, turns-keep, turns-more, turns-behind}
 use Rattle.wander.specs.declared.Round.{Round}
@@ -189,3 +190,24 @@ module _ (g : Lattice) (link : ℕ → ℕ → Bool) (k : ℕ) (w : List ℕ) (t
 pub round-none : (g : Lattice) (link : ℕ → ℕ → Bool) (k : ℕ) (w : List ℕ) (t : Round) → isFree (take (pointsOf g) w) k ≡ false → walksIn (pointsOf g) w t ≡ startAt g link k (walksIn (pointsOf g) w t)
 unfolding startAt
 round-none g link k w t f = rw f
+
+-- ---- the loop over all points
+
+module _ (g : Lattice) (link : ℕ → ℕ → Bool) where
+  module _ (w : List ℕ) (seed : ℕ) where
+    pub round-start : pointsOf g ≤ mostPoints → 8 * pointsOf g ≤ length w → Between (pointsOf g) w (record { walks = 0; size = 0; seed = seed })
+    unfolding rising
+    round-start few room =
+        let h : length (take (pointsOf g) w) ≡ pointsOf g = length-take-le (pointsOf g) w (omega arith) in
+        record { few = few; room = room; path = omega (arith, ones-few (take (pointsOf g) w)); ends = omega (arith, ones-few (take (pointsOf g) w)); rise = refl }
+
+    pub rounds-start : fold (startAt g link) (walksIn (pointsOf g) w (record { walks = 0; size = 0; seed = seed })) (upto 0 (pointsOf g - 0)) ≡ walksOf g link (take (pointsOf g) w) seed
+    unfolding walksOf cut
+    rounds-start = let e : pointsOf g - 0 ≡ pointsOf g = omega arith in rw e
+
+  module _ (x : Walks) (k : ℕ) where
+    pub rounds-next : k < pointsOf g → {y : Walks} → y ≡ startAt g link k x → fold (startAt g link) y (upto (k + 1) (pointsOf g - (k + 1))) ≡ fold (startAt g link) x (upto k (pointsOf g - k))
+    rounds-next h e = rw (upto-next (pointsOf g) k h, e)
+
+    pub rounds-end : pointsOf g ≤ k → fold (startAt g link) x (upto k (pointsOf g - k)) ≡ x
+    rounds-end h = rw (fuel-none (pointsOf g) k h)

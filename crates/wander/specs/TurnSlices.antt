@@ -90,9 +90,9 @@ module _ (g : Lattice) (link : ℕ → ℕ → Bool) where
     unfolding Fair
     turns-sound m x o =
         let q = turns-keep g link Fair
-            (λ f s p here shut v. (v .0, omega (arith, v .1), omega (arith, v .2, length-append p (take 1 s), take-one s), v .3 .1))
-            (λ f s p here k t l v. (length-set f k 0 ∙ v .0, omega (arith, v .1, ones-taken f k t), omega (arith, v .2, ones-taken f k t, length-append p (k ∷ [])), (omega (arith, free-low f k t, v .0), v .3)))
-            m x (o .size, o .stack, o .path, o .low) in
+        (λ f s p here shut v. (v .0, omega (arith, v .1), omega (arith, v .2, length-append p (take 1 s), take-one s), v .3 .1))
+        (λ f s p here k t l v. (length-set f k 0 ∙ v .0, omega (arith, v .1, ones-taken f k t), omega (arith, v .2, ones-taken f k t, length-append p (k ∷ [])), (omega (arith, free-low f k t, v .0), v .3)))
+        m x (o .size, o .stack, o .path, o .low) in
         record { size = q .0; stack = q .1; path = q .2; low = q .3 }
 
     zero-turns : (y : Walk) → turns g link 0 y ≡ y

@@ -61,14 +61,7 @@ fn mark_of(
 }
 
 // The marks of all points to the front of w: all that are inside are free.
-pub fn mark(
-    w: &mut [usize],
-    corners: &[f64],
-    ends: &[usize],
-    h: &[f64],
-    rule: FillRule,
-    g: Lattice,
-)
+pub fn mark(w: &mut [usize], corners: &[f64], ends: &[usize], h: &[f64], rule: FillRule, g: Lattice)
     requires { ⌜ Measured (now corners) (now ends) (now h) × (g .columns * g .rows ≤ length (now w)) ⌝ }
     ensures { λ _. ⌜ now (w .exit) ≡ freeAtFirst (rings (now (corners .entry)) (now (ends .entry))) rule g ++ drop (length (freeAtFirst (rings (now (corners .entry)) (now (ends .entry))) rule g)) (now (w .entry)) ⌝ }
 {

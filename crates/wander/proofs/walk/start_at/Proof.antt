@@ -1,83 +1,45 @@
+-- `start_at` meets its contract. Assumes nothing.
+use native.Mathlib.Omega.{arith}
+use mathlib.Core.Path.{_≡_, refl, sym, _∙_}
+use mathlib.Core.Bool.{true}
+use Prim.Native.Nat.{_≤_}
+use lib.ListN.{length, take}
+use Rattle.geom.specs.Outline.{rings}
+use Rattle.meander_rules.specs.Meander.{pointsOf, linkOk, isFree}
+use Rattle.wander.specs.RoundLaws.{first-sized, first-low, first-top, first-size, begun-ready, last-room, round-is, round-between, round-long, round-none}
 use borrow.Author.Needs.{needs}
 use Rattle.wander.proofs.walk.start_at.Statement.{statement}
 use Rattle.wander.proofs.walk.start_at.Tie as tie
-use Rattle.wander.proofs.walk.start_at.Reads as reads
-use Rattle.wander.proofs.walk.start_at.Lts as lts
-use Rattle.wander.proofs.slice.go_on.Reads as go-on-reads
-use Rattle.wander.proofs.slice.is_free.Reads as is-free-reads
-use Rattle.wander.proofs.walk.walk.Reads as walk-reads
 
--- src/walk.rt:177:13
-mul-n : tie.Need-mul-n
-mul-n c = search needs
-
--- src/walk.rt:178:8
 is-free-requires : tie.Need-is-free-requires
-is-free-requires c κs = search needs
+is-free-requires c κs = omega (arith, c .before .before .before .before .before .before .pre .1 .room)
 
--- src/walk.rt:180:18
-mul-at : tie.Need-mul-at
-mul-at c = search needs
-
--- src/walk.rt:184:13
 go-on-requires : tie.Need-go-on-requires
-go-on-requires c κs = ?
+go-on-requires c κs = let a = c .before .before .before .before .before .before .before .before .before .args in let b = c .before .before .before .before .before .before .before .before .before .pre .1 in let link = linkOk (rings (a .corners .now) (a .ends .now)) (a .rule) (a .g) in let f = sym (c .before .before .is-free .ensures) ∙ c .before .if1 .taken in
+    (first-sized (a .g) link (a .k) (a .w .now) (a .t) b f, first-low (a .g) link (a .k) (a .w .now) (a .t) b f, first-top (a .g) link (a .k) (a .w .now) (a .t) b f, first-size (a .g) link (a .k) (a .w .now) (a .t) b f)
 
--- src/walk.rt:185:13
 walk-requires : tie.Need-walk-requires
-walk-requires c κs = ?
+walk-requires c κs = let a = c .before .before .before .before .before .before .before .before .before .before .before .before .before .args in let b = c .before .before .before .before .before .before .before .before .before .before .before .before .before .pre .1 in let link = linkOk (rings (a .corners .now) (a .ends .now)) (a .rule) (a .g) in let f = sym (c .before .before .before .before .before .before .is-free .ensures) ∙ c .before .before .before .before .before .if1 .taken in
+    (c .before .before .before .before .before .before .before .before .before .before .before .before .before .pre .0, begun-ready (a .g) link (a .k) (a .w .now) (a .t) b f _ (c .before .before .before .go-on .result) (c .before .before .before .go-on .ensures))
 
--- src/walk.rt:186:18
-mul-at-2 : tie.Need-mul-at-2
-mul-at-2 c = search needs
-
--- src/walk.rt:186:18
-add-at : tie.Need-add-at
-add-at c = search needs
-
--- src/walk.rt:187:9
-mul-w : tie.Need-mul-w
-mul-w c = search needs
-
--- src/walk.rt:187:9
 slice-write-w : tie.Need-slice-write-w
-slice-write-w c = ?
+slice-write-w c = let a = c .before .before .before .before .before .before .before .before .before .before .before .before .before .before .before .before .before .args in let b = c .before .before .before .before .before .before .before .before .before .before .before .before .before .before .before .before .before .pre .1 in let link = linkOk (rings (a .corners .now) (a .ends .now)) (a .rule) (a .g) in let f = sym (c .before .before .before .before .before .before .before .before .before .before .is-free .ensures) ∙ c .before .before .before .before .before .before .before .before .before .if1 .taken in
+    last-room (a .g) link (a .k) (a .w .now) (a .t) b f _ (c .before .before .before .before .before .before .before .go-on .result) (c .before .before .before .before .before .before .before .go-on .ensures) _ (c .before .before .before .walk .result) (c .before .before .before .walk .ensures)
 
--- src/walk.rt:189:20
 add-t17 : tie.Need-add-t17
-add-t17 c = ?
+add-t17 c = record { fits = omega (arith, c .before .before .before .before .before .before .before .before .before .before .before .before .before .before .before .before .before .before .pre .1 .ends, c .before .before .before .before .before .before .before .before .before .before .before .before .before .before .before .before .before .before .pre .1 .few) }
 
--- src/walk.rt:188:9
 same-length : tie.Need-same-length
-same-length c = ?
+same-length c = let a = c .before .before .before .before .before .before .before .before .before .before .before .before .before .before .before .before .before .before .args in let b = c .before .before .before .before .before .before .before .before .before .before .before .before .before .before .before .before .before .before .pre .1 in let link = linkOk (rings (a .corners .now) (a .ends .now)) (a .rule) (a .g) in let f = sym (c .before .before .before .before .before .before .before .before .before .before .before .is-free .ensures) ∙ c .before .before .before .before .before .before .before .before .before .before .if1 .taken in
+    round-long (a .g) link (a .k) (a .w .now) (a .t) b f _ (c .before .before .before .before .before .before .before .before .go-on .result) (c .before .before .before .before .before .before .before .before .go-on .ensures) _ (c .before .before .before .before .walk .result) (c .before .before .before .before .walk .ensures)
 
--- src/walk.rt:188:9
 returns : tie.Need-returns
-returns c = ?
+returns c = let a = c .before .before .before .before .before .before .before .before .before .before .before .before .before .before .before .before .before .before .args in let b = c .before .before .before .before .before .before .before .before .before .before .before .before .before .before .before .before .before .before .pre .1 in let link = linkOk (rings (a .corners .now) (a .ends .now)) (a .rule) (a .g) in let f = sym (c .before .before .before .before .before .before .before .before .before .before .before .is-free .ensures) ∙ c .before .before .before .before .before .before .before .before .before .before .if1 .taken in
+    (round-is (a .g) link (a .k) (a .w .now) (a .t) b f _ (c .before .before .before .before .before .before .before .before .go-on .result) (c .before .before .before .before .before .before .before .before .go-on .ensures) _ (c .before .before .before .before .walk .result) (c .before .before .before .before .walk .ensures), round-between (a .g) link (a .k) (a .w .now) (a .t) b f _ (c .before .before .before .before .before .before .before .before .go-on .result) (c .before .before .before .before .before .before .before .before .go-on .ensures) _ (c .before .before .before .before .walk .result) (c .before .before .before .before .walk .ensures), round-long (a .g) link (a .k) (a .w .now) (a .t) b f _ (c .before .before .before .before .before .before .before .before .go-on .result) (c .before .before .before .before .before .before .before .before .go-on .ensures) _ (c .before .before .before .before .walk .result) (c .before .before .before .before .walk .ensures))
 
--- src/walk.rt:164:1
-same-length-2 : tie.Need-same-length-2
-same-length-2 c = search needs
-
--- src/walk.rt:164:1
 returns-2 : tie.Need-returns-2
-returns-2 c = ?
+returns-2 c = let a = c .before .before .before .before .before .before .before .before .args in (round-none (a .g) (linkOk (rings (a .corners .now) (a .ends .now)) (a .rule) (a .g)) (a .k) (a .w .now) (a .t) (sym (c .before .is-free .ensures) ∙ c .if1 .left), c .before .before .before .before .before .before .before .before .pre .1, refl)
 
 pub start-at-spec : {M : Type 1} → statement M
 start-at-spec =
-    tie.close
-    (tie.spec
-    mul-n
-    is-free-requires
-    mul-at
-    go-on-requires
-    walk-requires
-    mul-at-2
-    add-at
-    mul-w
-    slice-write-w
-    add-t17
-    same-length
-    returns
-    same-length-2
-    returns-2)
+    tie.close (tie.spec (λ c. search needs) is-free-requires (λ c. search needs) go-on-requires walk-requires (λ c. search needs) (λ c. search needs) (λ c. search needs) slice-write-w add-t17 same-length returns (λ c. search needs) returns-2)

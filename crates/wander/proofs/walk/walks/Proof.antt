@@ -1,59 +1,40 @@
+-- `walks` meets its contract: the walks from the points from k on are still to be made. Assumes nothing.
+use native.Mathlib.Omega.{arith}
+use mathlib.Core.Path.{_≡_, refl, sym, _∙_}
+use Prim.Native.Nat.{_-_, _≤_}
+use lib.ListN.{length, take}
+use Rattle.seqs.specs.Lists.{upto, fold}
+use Rattle.geom.specs.Outline.{rings}
+use Rattle.meander_rules.specs.Meander.{pointsOf, linkOk, startAt, walksOf}
+use Rattle.wander.specs.Walking.{walksIn, Between}
+use Rattle.wander.specs.RoundLaws.{round-start, rounds-start, rounds-next, rounds-end}
 use borrow.Author.Needs.{needs}
 use Rattle.wander.proofs.walk.walks.Statement.{statement}
 use Rattle.wander.proofs.walk.walks.Tie as tie
-use Rattle.wander.proofs.walk.walks.Reads as reads
-use Rattle.wander.proofs.walk.walks.Lts as lts
-use Rattle.wander.proofs.walk.start_at.Reads as start-at-reads
 
 abbrev Inv-loop : tie.InvT-loop
-Inv-loop w₀ corners ends h rule g seed n t₀ k₀ w t k = ?
+Inv-loop w₀ corners ends h rule g seed n t₀ k₀ w t k = (k ≤ pointsOf g) × Between (pointsOf g) w t × (length w ≡ length w₀) × (fold (startAt g (linkOk (rings corners ends) rule g)) (walksIn (pointsOf g) w t) (upto k (pointsOf g - k)) ≡ walksOf g (linkOk (rings corners ends) rule g) (take (pointsOf g) w₀) seed)
 
 abbrev μ-loop : tie.MeasureT-loop
-μ-loop w₀ corners ends h rule g seed n t₀ k₀ w t k = ?
+μ-loop w₀ corners ends h rule g seed n t₀ k₀ w t k = pointsOf g - k
 
--- src/walk.rt:210:13
-mul-n : tie.Need-mul-n Inv-loop μ-loop
-mul-n c = search needs
-
--- src/walk.rt:217:5
 loop-holds : tie.Need-loop-holds Inv-loop μ-loop
-loop-holds c = search needs
+loop-holds c = let a = c .before .before .before .before .before .args in let link = linkOk (rings (a .corners .now) (a .ends .now)) (a .rule) (a .g) in (omega arith, round-start (a .g) link (a .w .now) (a .seed) (c .before .before .before .before .before .pre .1) (c .before .before .before .before .before .pre .2), refl, rounds-start (a .g) link (a .w .now) (a .seed))
 
--- src/walk.rt:218:9
 start-at-requires : tie.Need-start-at-requires Inv-loop μ-loop
-start-at-requires c κs = search needs
+start-at-requires c κs = (c .before .before .before .before .before .before .before .before .pre .0, c .before .before .loop .inv .1)
 
--- src/walk.rt:219:9
-add-k : tie.Need-add-k Inv-loop μ-loop
-add-k c = search needs
-
--- src/walk.rt:217:5
-loop-less : tie.Need-loop-less Inv-loop μ-loop
-loop-less c = search needs
-
--- src/walk.rt:217:5
 loop-again : tie.Need-loop-again Inv-loop μ-loop
-loop-again c = search needs
+loop-again c = let a = c .before .before .before .before .before .before .before .before .before .before .before .args in let l = c .before .before .before .before .before .loop in let link = linkOk (rings (a .corners .now) (a .ends .now)) (a .rule) (a .g) in
+    (omega arith, c .before .before .start-at .ensures .1, c .before .before .start-at .ensures .2 ∙ l .inv .2, rounds-next (a .g) link (walksIn (pointsOf (a .g)) (l .w) (l .t)) (l .k) (search needs) (c .before .before .start-at .ensures .0) ∙ l .inv .3)
 
--- src/walk.rt:198:1
 same-length : tie.Need-same-length Inv-loop μ-loop
-same-length c = search needs
+same-length c = c .before .loop .inv .2
 
--- src/walk.rt:198:1
 returns : tie.Need-returns Inv-loop μ-loop
-returns c = search needs
+returns c = let a = c .before .before .before .before .before .before .before .args in let l = c .before .loop in let link = linkOk (rings (a .corners .now) (a .ends .now)) (a .rule) (a .g) in
+    (sym (rounds-end (a .g) link (walksIn (pointsOf (a .g)) (l .w) (l .t)) (l .k) (search needs)) ∙ l .inv .3, l .inv .1, l .inv .2)
 
 pub walks-spec : {M : Type 1} → statement M
 walks-spec =
-    tie.close
-    (tie.spec
-    Inv-loop
-    μ-loop
-    mul-n
-    loop-holds
-    start-at-requires
-    add-k
-    loop-less
-    loop-again
-    same-length
-    returns)
+    tie.close (tie.spec Inv-loop μ-loop (λ c. search needs) loop-holds start-at-requires (λ c. search needs) (λ c. search needs) loop-again same-length returns)
