@@ -26,7 +26,7 @@ use Rattle.wander.specs.TurnSlices.{turns-sound, path-length}
 
 -- ---- ends that rise, and one more
 
-rising-le : (a : ℕ) (es : List ℕ) (n : ℕ) → rising a es n ≡ true → a ≤ n
+pub rising-le : (a : ℕ) (es : List ℕ) (n : ℕ) → rising a es n ≡ true → a ≤ n
 unfolding rising
 rising-le a [] n h = omega (arith, eqb-true a n h)
 rising-le a (e ∷ es) n h = let p = and-both (leb a e) (rising e es n) h in omega (arith, leb-true a e (p .0), rising-le e es n (p .1))
