@@ -21,7 +21,7 @@ use Rattle.wander.specs.declared.Round.{Round}
 use Rattle.wander.specs.Walking.{walksIn, Between}
 use Rattle.wander.specs.MarkLaws.{marks-length}
 use Rattle.wander.specs.RoundLaws.{rising-le}
-use Rattle.meander.specs.Stub.{trails}
+use Rattle.trail.specs.Trail.{trails}
 
 -- what is cut ends at the last end
 cut-take : (a : ℕ) (es : List ℕ) (n : ℕ) (l : List ℕ) → rising a es n ≡ true → n ≤ length l → cut a es (take n l) ≡ cut a es l

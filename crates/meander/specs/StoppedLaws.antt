@@ -16,7 +16,7 @@ use Rattle.numbers.specs.Order.{finite}
 use Rattle.numbers.specs.Whole.{ceil}
 use Rattle.seqs.specs.Lists.{upto, each, fold}
 use Rattle.seqs.specs.Slices.{capped}
-use Rattle.seqs.specs.Capped.{capped-in, capped-over, capped-cases}
+use Rattle.seqs.specs.Capped.{capped-in, capped-over, capped-cases, capped-small}
 use Rattle.geom.specs.declared.point.P.{P}
 use Rattle.geom.specs.Outline.{points, rings}
 use Rattle.geom.specs.Sewing.{flat}
@@ -25,6 +25,8 @@ use Rattle.limits.specs.Limits.{goodOutline}
 use Rattle.limits.specs.LimitsLaws.{outline-layout}
 use Rattle.rules.specs.Calls.{sewnPoints, sewnEnds}
 use Rattle.patterns_rules.specs.declared.Bounds.{Bounds}
+use Rattle.patterns_rules.specs.declared.Lines.{Lines}
+use Rattle.patterns_rules.specs.Patterns.{bounds}
 use Rattle.patterns_rules.specs.Answers.{roomFor, saidLines, leftPoints, leftEnds}
 use Rattle.cross.specs.Cells.{boundsOf}
 use Rattle.cross.specs.BoundLaws.{bounds-are}
@@ -111,7 +113,7 @@ module _ (corners : List Float) (ends : List ℕ) (rule : FillRule) (spacing len
 
   even : Even (latticeOf (rings corners ends) spacing)
   unfolding latticeOf
-  even = lattice-even (Rattle.patterns_rules.specs.Patterns.bounds (rings corners ends)) spacing
+  even = lattice-even (bounds (rings corners ends)) spacing
 
   pub lines-are : linesOn (rings corners ends) rule g len seed ≡ meander (rings corners ends) rule spacing len seed
   unfolding meander
@@ -121,10 +123,10 @@ module _ (corners : List Float) (ends : List ℕ) (rule : FillRule) (spacing len
   need-is = ap needOf counted ∙ stopped-lines (rings corners ends) rule len seed (latticeOf (rings corners ends) spacing) even .1
 
   pub few-columns : g .columns ≤ 400001
-  few-columns = omega (arith, ap (λ (x : Lattice). x .columns) e, Rattle.seqs.specs.Capped.capped-small mostPoints (latticeIn (boundsOf (points corners)) spacing .columns))
+  few-columns = omega (arith, ap (λ (x : Lattice). x .columns) e, capped-small mostPoints (latticeIn (boundsOf (points corners)) spacing .columns))
 
   pub few-rows : g .rows ≤ 400001
-  few-rows = omega (arith, ap (λ (x : Lattice). x .rows) e, Rattle.seqs.specs.Capped.capped-small mostPoints (latticeIn (boundsOf (points corners)) spacing .rows))
+  few-rows = omega (arith, ap (λ (x : Lattice). x .rows) e, capped-small mostPoints (latticeIn (boundsOf (points corners)) spacing .rows))
 
 -- ---- answers with nothing sewn
 
@@ -134,14 +136,16 @@ no-answer a b = rw (le-leb 0 a (omega arith), le-leb 0 b (omega arith))
 
 module _ (rings : List (List P)) (rule : FillRule) (g : Lattice) (len : Float) (seed : ℕ) (out : List Float) (stops : List ℕ) (wholes : ℕ) where
   -- a grid with no point, or too many
-  pub record Said (r : Rattle.patterns_rules.specs.declared.Lines.Lines) (out′ : List Float) (stops′ : List ℕ) : Type 0 where
+  pub record Said (r : Lines) (out′ : List Float) (stops′ : List ℕ) : Type 0 where
     pub says : r ≡ saidLines (answerOn rings rule g len seed (length out) (length stops) wholes) (linesOn rings rule g len seed)
     pub points : out′ ≡ leftPoints (answerOn rings rule g len seed (length out) (length stops) wholes) (linesOn rings rule g len seed) out
     pub ends : stops′ ≡ leftEnds (answerOn rings rule g len seed (length out) (length stops) wholes) (linesOn rings rule g len seed) stops
 
   nothing-said : linesOn rings rule g len seed ≡ [] → needOf g ≡ 0 → Said (record { answer = 0; lines = 0; points = 0 }) out stops
   unfolding saidLines leftPoints leftEnds flat sewnPoints sewnEnds
-  nothing-said l n = record { says = rw (l, n, no-answer (length out) (length stops)); points = rw (l, n, no-answer (length out) (length stops)); ends = rw (l, n, no-answer (length out) (length stops)) }
+  nothing-said l n =
+      let t : leb 0 wholes ≡ true = le-leb 0 wholes (omega arith) in
+      record { says = rw (l, n, t, no-answer (length out) (length stops)); points = rw (l, n, t, no-answer (length out) (length stops)); ends = rw (l, n, t, no-answer (length out) (length stops)) }
 
   pub large-said : mostPoints < pointsOf g → Said (record { answer = 0; lines = 0; points = 0 }) out stops
   large-said h = let q = too-large rings rule len seed g h in nothing-said (q .0) (q .1)
@@ -176,7 +180,7 @@ module _ (rings : List (List P)) (rule : FillRule) (g : Lattice) (len : Float) (
     unfolding saidLines leftPoints leftEnds
     work-said h = let t : leb (needOf g) wholes ≡ false = lt-leb (needOf g) wholes (omega (arith, need-on)) in record { says = rw t; points = rw t; ends = rw t }
 
-    pub sewn-said : 8 * pointsOf g ≤ wholes → {r : Rattle.patterns_rules.specs.declared.Lines.Lines} {out′ : List Float} {stops′ : List ℕ}
+    pub sewn-said : 8 * pointsOf g ≤ wholes → {r : Lines} {out′ : List Float} {stops′ : List ℕ}
         → r ≡ saidLines (roomFor (meanderOn rings rule g len seed) (length out) (length stops)) (meanderOn rings rule g len seed)
         → out′ ≡ leftPoints (roomFor (meanderOn rings rule g len seed) (length out) (length stops)) (meanderOn rings rule g len seed) out
         → stops′ ≡ leftEnds (roomFor (meanderOn rings rule g len seed) (length out) (length stops)) (meanderOn rings rule g len seed) stops → Said r out′ stops′

@@ -5,7 +5,6 @@ ghost use Rattle.meander_rules.specs.Answers.{meanderSaid, meanderPoints, meand
 
 mod grid;
 mod sewing;
-mod stub;
 
 use grid::lattice_of;
 use limits::good_len;

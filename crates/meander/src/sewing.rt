@@ -9,7 +9,6 @@ ghost use Rattle.patterns_rules.specs.Answers.{roomFor, saidLines, leftPoints, 
 ghost use Rattle.meander_rules.specs.Meander.{pointsOf, mostPoints, linesAlong, meanderOn};
 ghost use Rattle.wander.specs.Walking.{walksIn, Between};
 ghost use Rattle.meander.specs.StoppedLaws.{Said};
-use crate::stub::lines_along;
 use finding::zero::zero_wholes;
 use meander_rules::Lattice;
 use outlines::FillRule;
@@ -18,6 +17,7 @@ use outlines::heights::heights;
 use patterns_rules::Lines;
 use refusal::DONE;
 use refusal::WORK;
+use trail::lines_along;
 use wander::Round;
 use wander::grid::mark;
 use wander::random::first_seed;

@@ -1,107 +1,46 @@
+-- `meander` meets its contract: each answer follows from the tests on the way to it. Assumes nothing.
+use mathlib.Core.Path.{_≡_, refl}
+use mathlib.Core.Bool.{false, _&&_}
+use lib.ListN.{length}
+use Rattle.seqs.specs.Tests.{passed, failed}
+use Rattle.geom.specs.Outline.{rings}
+use Rattle.limits.specs.LimitsLaws.{outline-layout}
+use Rattle.patterns_rules.specs.Answers.{saidLines, leftPoints, leftEnds}
+use Rattle.meander_rules.specs.Answers.{meanderRefusal, meanderSaid, meanderPoints, meanderEnds, meanderWholes}
+use Rattle.meander.specs.StoppedLaws.{lines-are, need-is, few-columns, few-rows, answer-works}
 use borrow.Author.Needs.{needs}
 use Rattle.meander.proofs.meander.Statement.{statement}
 use Rattle.meander.proofs.meander.Tie as tie
-use Rattle.meander.proofs.meander.Reads as reads
-use Rattle.meander.proofs.meander.Lts as lts
-use Rattle.limits.proofs.good_len.Reads as good-len-reads
-use Rattle.limits.proofs.good_numbers.Reads as good-numbers-reads
-use Rattle.limits.proofs.good_outline.Reads as good-outline-reads
-use Rattle.limits.proofs.good_spacing.Reads as good-spacing-reads
-use Rattle.meander.proofs.grid.lattice_of.Reads as lattice-of-reads
-use Rattle.meander.proofs.refused.Reads as refused-reads
-use Rattle.meander.proofs.sewing.on_lattice.Reads as on-lattice-reads
 
--- src/lib.rt:46:9
-good-outline-requires : tie.Need-good-outline-requires
-good-outline-requires c κs = search needs
-
--- src/lib.rt:47:9
-refused-requires : tie.Need-refused-requires
-refused-requires c κs = search needs
-
--- src/lib.rt:47:9
 returns : tie.Need-returns
-returns c = ?
+unfolding meanderRefusal meanderSaid meanderPoints meanderEnds meanderWholes saidLines leftPoints leftEnds
+returns c = rw (failed (c .before .before .good-outline .ensures) (c .before .if1 .taken)) (c .refused .ensures, refl, refl, refl)
 
--- src/lib.rt:49:9
-good-numbers-requires : tie.Need-good-numbers-requires
-good-numbers-requires c κs = search needs
-
--- src/lib.rt:50:9
-refused-requires-2 : tie.Need-refused-requires-2
-refused-requires-2 c κs = search needs
-
--- src/lib.rt:50:9
 returns-2 : tie.Need-returns-2
-returns-2 c = ?
+unfolding meanderRefusal meanderSaid meanderPoints meanderEnds meanderWholes saidLines leftPoints leftEnds
+returns-2 c = rw (passed (c .before .before .before .before .good-outline .ensures) (c .before .before .before .if1 .left), failed (c .before .before .good-numbers .ensures) (c .before .if2 .taken)) (c .refused2 .ensures, refl, refl, refl)
 
--- src/lib.rt:52:9
-good-spacing-requires : tie.Need-good-spacing-requires
-good-spacing-requires c κs = search needs
-
--- src/lib.rt:53:9
-refused-requires-3 : tie.Need-refused-requires-3
-refused-requires-3 c κs = search needs
-
--- src/lib.rt:53:9
 returns-3 : tie.Need-returns-3
-returns-3 c = ?
+unfolding meanderRefusal meanderSaid meanderPoints meanderEnds meanderWholes saidLines leftPoints leftEnds
+returns-3 c = rw (passed (c .before .before .before .before .before .before .good-outline .ensures) (c .before .before .before .before .before .if1 .left), passed (c .before .before .before .before .good-numbers .ensures) (c .before .before .before .if2 .left), failed (c .before .before .good-spacing .ensures) (c .before .if3 .taken)) (c .refused3 .ensures, refl, refl, refl)
 
--- src/lib.rt:55:9
-good-len-requires : tie.Need-good-len-requires
-good-len-requires c κs = search needs
-
--- src/lib.rt:56:9
-refused-requires-4 : tie.Need-refused-requires-4
-refused-requires-4 c κs = search needs
-
--- src/lib.rt:56:9
 returns-4 : tie.Need-returns-4
-returns-4 c = ?
+unfolding meanderRefusal meanderSaid meanderPoints meanderEnds meanderWholes saidLines leftPoints leftEnds
+returns-4 c = rw (passed (c .before .before .before .before .before .before .before .before .good-outline .ensures) (c .before .before .before .before .before .before .before .if1 .left), passed (c .before .before .before .before .before .before .good-numbers .ensures) (c .before .before .before .before .before .if2 .left), passed (c .before .before .before .before .good-spacing .ensures) (c .before .before .before .if3 .left), failed (c .before .before .good-len .ensures) (c .before .if4 .taken)) (c .refused4 .ensures, refl, refl, refl)
 
--- src/lib.rt:58:9
-lattice-of-requires : tie.Need-lattice-of-requires
-lattice-of-requires c κs = search needs
-
--- src/lib.rt:59:5
 on-lattice-requires : tie.Need-on-lattice-requires
-on-lattice-requires c κs = ?
+on-lattice-requires c κs = let a = c .before .before .before .before .before .before .before .before .before .before .before .before .before .before .before .before .before .args in let o = passed (c .before .before .before .before .before .before .before .before .before .before .before .good-outline .ensures) (c .before .before .before .before .before .before .before .before .before .before .if1 .left) in
+    (outline-layout (a .corners .now) (a .ends .now) o, few-columns (a .corners .now) (a .ends .now) (a .rule) (a .spacing) (a .len) (a .seed) o (c .before .before .before .lattice-of .ensures), few-rows (a .corners .now) (a .ends .now) (a .rule) (a .spacing) (a .len) (a .seed) o (c .before .before .before .lattice-of .ensures))
 
--- src/lib.rt:33:1
-same-length : tie.Need-same-length
-same-length c = search needs
-
--- src/lib.rt:33:1
-same-length-2 : tie.Need-same-length-2
-same-length-2 c = search needs
-
--- src/lib.rt:33:1
-same-length-3 : tie.Need-same-length-3
-same-length-3 c = search needs
-
--- src/lib.rt:33:1
 returns-5 : tie.Need-returns-5
-returns-5 c = ?
+unfolding meanderRefusal meanderSaid meanderPoints meanderEnds meanderWholes
+returns-5 c = let a = c .before .before .before .before .before .before .before .before .before .before .before .before .before .before .before .before .before .before .before .before .before .before .before .before .args in let o = passed (c .before .before .before .before .before .before .before .before .before .before .before .before .before .before .before .before .before .before .good-outline .ensures) (c .before .before .before .before .before .before .before .before .before .before .before .before .before .before .before .before .before .if1 .left) in
+    let q = c .before .before .before .before .before .before .on-lattice .ensures in
+    let ls = lines-are (a .corners .now) (a .ends .now) (a .rule) (a .spacing) (a .len) (a .seed) o (c .before .before .before .before .before .before .before .before .before .before .lattice-of .ensures) in
+    let nd = need-is (a .corners .now) (a .ends .now) (a .rule) (a .spacing) (a .len) (a .seed) o (c .before .before .before .before .before .before .before .before .before .before .lattice-of .ensures) in
+    let w = rw (ls, nd) at (answer-works (rings (a .corners .now) (a .ends .now)) (a .rule) (c .before .before .before .before .before .before .before .before .before .before .lattice-of .result) (a .len) (a .seed) (length (a .out .now)) (length (a .stops .now)) (length (a .wholes .now))) in
+    rw (o, passed (c .before .before .before .before .before .before .before .before .before .before .before .before .before .before .before .before .good-numbers .ensures) (c .before .before .before .before .before .before .before .before .before .before .before .before .before .before .before .if2 .left), passed (c .before .before .before .before .before .before .before .before .before .before .before .before .before .before .good-spacing .ensures) (c .before .before .before .before .before .before .before .before .before .before .before .before .before .if3 .left), passed (c .before .before .before .before .before .before .before .before .before .before .before .before .good-len .ensures) (c .before .before .before .before .before .before .before .before .before .before .before .if4 .left)) (rw (ls, nd) at (q .0 .says), rw (ls, nd) at (q .0 .points), rw (ls, nd) at (q .0 .ends), rw w (q .1))
 
 pub meander-spec : {M : Type 1} → statement M
 meander-spec =
-    tie.close
-    (tie.spec
-    good-outline-requires
-    refused-requires
-    returns
-    good-numbers-requires
-    refused-requires-2
-    returns-2
-    good-spacing-requires
-    refused-requires-3
-    returns-3
-    good-len-requires
-    refused-requires-4
-    returns-4
-    lattice-of-requires
-    on-lattice-requires
-    same-length
-    same-length-2
-    same-length-3
-    returns-5)
+    tie.close (tie.spec (λ c κs. search needs) (λ c κs. search needs) returns (λ c κs. search needs) (λ c κs. search needs) returns-2 (λ c κs. search needs) (λ c κs. search needs) returns-3 (λ c κs. search needs) (λ c κs. search needs) returns-4 (λ c κs. search needs) on-lattice-requires (λ c. search needs) (λ c. search needs) (λ c. search needs) returns-5)

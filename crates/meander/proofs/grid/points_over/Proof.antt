@@ -1,30 +1,17 @@
+-- `points_over` meets its contract. Assumes nothing.
+use mathlib.Core.Path.{ap, _∙_}
+use lib.Ieee.{toUnsigned}
+use Rattle.meander.specs.StoppedLaws.{over-few, over-many}
 use borrow.Author.Needs.{needs}
 use Rattle.meander.proofs.grid.points_over.Statement.{statement}
 use Rattle.meander.proofs.grid.points_over.Tie as tie
-use Rattle.meander.proofs.grid.points_over.Reads as reads
-use Rattle.meander.proofs.grid.points_over.Lts as lts
-use Rattle.leaves.proofs.to_u64.Reads as to-u64-reads
-use Rattle.leaves.proofs.ceil.Reads as ceil-reads
 
--- src/grid.rt:19:20
-ceil-requires : tie.Need-ceil-requires
-ceil-requires c κs = search needs
-
--- src/grid.rt:19:9
-to-u64-requires : tie.Need-to-u64-requires
-to-u64-requires c κs = search needs
-
--- src/grid.rt:21:16
-add-result : tie.Need-add-result
-add-result c = search needs
-
--- src/grid.rt:21:9
 returns : tie.Need-returns
-returns c = ?
+returns c = over-few (c .before .before .before .args .lo) (c .before .before .before .args .hi) (c .before .before .before .args .spacing) (c .before .to-u64 .ensures ∙ ap (toUnsigned 64) (c .before .before .ceil .ensures)) (search needs)
 
--- src/grid.rt:16:1
 returns-2 : tie.Need-returns-2
-returns-2 c = ?
+returns-2 c = over-many (c .before .before .before .args .lo) (c .before .before .before .args .hi) (c .before .before .before .args .spacing) (c .before .to-u64 .ensures ∙ ap (toUnsigned 64) (c .before .before .ceil .ensures)) (search needs)
 
 pub points-over-spec : {M : Type 1} → statement M
-points-over-spec = tie.close (tie.spec ceil-requires to-u64-requires add-result returns returns-2)
+points-over-spec =
+    tie.close (tie.spec (λ c κs. search needs) (λ c κs. search needs) (λ c. search needs) returns returns-2)

@@ -1,113 +1,36 @@
+-- `on_lattice` meets its contract: each answer follows from the tests on the way to it. Assumes nothing.
+use native.Mathlib.Omega.{arith}
+use native.Mathlib.Nat.{mul-le-mul}
+use mathlib.Core.Path.{_≡_, ap, _∙_}
+use Prim.Native.Nat.{ℕ, _*_, _≤_}
+use lib.ListN.{length, replicate}
+use Rattle.geom.specs.Outline.{rings}
+use Rattle.meander_rules.specs.Meander.{pointsOf, mostPoints}
+use Rattle.wander.specs.WayLaws.{some-columns}
+use Rattle.meander.specs.StoppedLaws.{large-said, none-said, work-said, sewn-said}
 use borrow.Author.Needs.{needs}
 use Rattle.meander.proofs.sewing.on_lattice.Statement.{statement}
 use Rattle.meander.proofs.sewing.on_lattice.Tie as tie
-use Rattle.meander.proofs.sewing.on_lattice.Reads as reads
-use Rattle.meander.proofs.sewing.on_lattice.Lts as lts
-use Rattle.finding.proofs.zero.zero_wholes.Reads as zero-wholes-reads
-use Rattle.meander.proofs.sewing.sew.Reads as sew-reads
-use Rattle.outlines.proofs.heights.heights.Reads as heights-reads
 
--- src/sewing.rt:86:13
 mul-n : tie.Need-mul-n
-mul-n c = ?
+mul-n c = record { fits = omega (arith, mul-le-mul (c .before .before .before .before .before .before .pre .1) (c .before .before .before .before .before .before .pre .2)) }
 
--- src/sewing.rt:88:9
-zero-wholes-requires : tie.Need-zero-wholes-requires
-zero-wholes-requires c κs = search needs
-
--- src/sewing.rt:89:9
-same-length : tie.Need-same-length
-same-length c = search needs
-
--- src/sewing.rt:89:9
 returns : tie.Need-returns
-returns c = ?
+returns c = let a = c .before .before .before .before .before .before .before .before .before .before .before .args in (large-said (rings (a .corners .now) (a .ends .now)) (a .rule) (a .g) (a .len) (a .seed) (a .out .now) (a .stops .now) (length (a .w .now)) (search needs), c .before .before .zero-wholes .ensures .is)
 
--- src/sewing.rt:96:9
-zero-wholes-requires-2 : tie.Need-zero-wholes-requires-2
-zero-wholes-requires-2 c κs = search needs
-
--- src/sewing.rt:97:9
-same-length-2 : tie.Need-same-length-2
-same-length-2 c = search needs
-
--- src/sewing.rt:97:9
 returns-2 : tie.Need-returns-2
-returns-2 c = ?
+returns-2 c = let a = c .before .before .before .before .before .before .before .before .before .before .before .before .args in (none-said (rings (a .corners .now) (a .ends .now)) (a .rule) (a .g) (a .len) (a .seed) (a .out .now) (a .stops .now) (length (a .w .now)) (search needs), c .before .before .zero-wholes2 .ensures .is)
 
--- src/sewing.rt:103:18
-mul-if3 : tie.Need-mul-if3
-mul-if3 c = search needs
-
--- src/sewing.rt:104:9
-zero-wholes-requires-3 : tie.Need-zero-wholes-requires-3
-zero-wholes-requires-3 c κs = search needs
-
--- src/sewing.rt:105:9
-same-length-3 : tie.Need-same-length-3
-same-length-3 c = search needs
-
--- src/sewing.rt:105:9
 returns-3 : tie.Need-returns-3
-returns-3 c = ?
+returns-3 c = let a = c .before .before .before .before .before .before .before .before .before .before .before .before .before .args in let few : pointsOf (a .g) ≤ mostPoints = omega (arith, c .before .before .before .before .before .before .if1 .left) in (work-said (rings (a .corners .now) (a .ends .now)) (a .rule) (a .g) (a .len) (a .seed) (a .out .now) (a .stops .now) (length (a .w .now)) few (search needs), c .before .before .zero-wholes3 .ensures .is)
 
--- src/sewing.rt:112:28
-slice-aggregate-heights : tie.Need-slice-aggregate-heights
-slice-aggregate-heights c = search needs
-
--- src/sewing.rt:112:5
-heights-requires : tie.Need-heights-requires
-heights-requires c κs = search needs
-
--- src/sewing.rt:113:32
-slice-aggregate-sew : tie.Need-slice-aggregate-sew
-slice-aggregate-sew c = search needs
-
--- src/sewing.rt:113:9
 sew-requires : tie.Need-sew-requires
-sew-requires c κs = ?
+sew-requires c κs = let a = c .before .before .before .before .before .before .before .before .before .before .before .before .before .before .before .before .args in (c .before .before .before .before .before .heights .ensures, some-columns (a .g .columns) (a .g .rows) 0 (omega (arith, c .before .before .before .before .before .before .before .before .if2 .left)), omega (arith, c .before .before .before .before .before .before .before .before .before .if1 .left), omega (arith, c .before .before .before .before .before .before .before .if3 .left))
 
--- src/sewing.rt:114:5
-zero-wholes-requires-4 : tie.Need-zero-wholes-requires-4
-zero-wholes-requires-4 c κs = search needs
-
--- src/sewing.rt:72:1
-same-length-4 : tie.Need-same-length-4
-same-length-4 c = search needs
-
--- src/sewing.rt:72:1
-same-length-5 : tie.Need-same-length-5
-same-length-5 c = search needs
-
--- src/sewing.rt:72:1
-same-length-6 : tie.Need-same-length-6
-same-length-6 c = search needs
-
--- src/sewing.rt:72:1
 returns-4 : tie.Need-returns-4
-returns-4 c = ?
+returns-4 c = let a = c .before .before .before .before .before .before .before .before .before .before .before .before .before .before .before .before .before .before .before .before .before .before .before .before .before .before .before .args in let few : pointsOf (a .g) ≤ mostPoints = omega (arith, c .before .before .before .before .before .before .before .before .before .before .before .before .before .before .before .before .before .before .before .before .if1 .left) in
+    (sewn-said (rings (a .corners .now) (a .ends .now)) (a .rule) (a .g) (a .len) (a .seed) (a .out .now) (a .stops .now) (length (a .w .now)) few (omega (arith, c .before .before .before .before .before .before .before .before .before .before .before .before .before .before .before .before .before .before .if3 .left)) (c .before .before .before .before .before .before .before .before .before .before .sew .ensures .0) (c .before .before .before .before .before .before .before .before .before .before .sew .ensures .1) (c .before .before .before .before .before .before .before .before .before .before .sew .ensures .2), c .before .before .zero-wholes4 .ensures .is ∙ ap (λ (k : ℕ). replicate k 0) (c .before .before .before .before .before .before .before .before .before .before .sew .ensures .3))
 
 pub on-lattice-spec : {M : Type 1} → statement M
 on-lattice-spec =
-    tie.close
-    (tie.spec
-    mul-n
-    zero-wholes-requires
-    same-length
-    returns
-    zero-wholes-requires-2
-    same-length-2
-    returns-2
-    mul-if3
-    zero-wholes-requires-3
-    same-length-3
-    returns-3
-    slice-aggregate-heights
-    heights-requires
-    slice-aggregate-sew
-    sew-requires
-    zero-wholes-requires-4
-    same-length-4
-    same-length-5
-    same-length-6
-    returns-4)
+    tie.close (tie.spec mul-n (λ c κs. search needs) (λ c. search needs) returns (λ c κs. search needs) (λ c. search needs) returns-2 (λ c. search needs) (λ c κs. search needs) (λ c. search needs) returns-3 (λ c. search needs) (λ c κs. search needs) (λ c. search needs) sew-requires (λ c κs. search needs) (λ c. search needs) (λ c. search needs) (λ c. search needs) returns-4)
