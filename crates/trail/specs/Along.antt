@@ -28,7 +28,7 @@ use Rattle.patterns_rules.specs.declared.Count.{Count}
 use Rattle.meander_rules.specs.declared.Lattice.{Lattice}
 use Rattle.meander_rules.specs.Meander.{place, smoothFrom, smooth, denseAlong, linesAlong}
 use Rattle.trail.specs.declared.pen.Pen.{Pen}
-use Rattle.trail.specs.Trail.{held, Done, nothing, both, run, begin, onTo, finish, clipLine, alongPath, Sewed}
+use Rattle.trail.specs.Trail.{held, Done, nothing, both, run, begin, onTo, finish, clipLine, alongPath, ahead, Sewed}
 use Rattle.trail.specs.Parts.{held-exact, held-back, held-few, held-most, held-none, sewed-both, sewed-none, Going, going-start, going-at, going-on, going-next, going-end}
 use Rattle.trail.specs.Runs.{paths-points, paths-ends, paths-few}
 
@@ -40,6 +40,11 @@ three-tenths = refl
 pub seven-tenths : literal 7 10 ≡ ofBits binary64 0x3fe6666666666666
 unfolding literal round ofBits
 seven-tenths = refl
+
+-- the steps before the last, and the corner
+pub piece-is : (a b : P) (len : Float) {n : ℕ} → n ≡ pieceSteps a b len → 0 < n → stepsFrom a b n 1 (n - 1) ++ (b ∷ []) ≡ piece a b len
+unfolding piece
+piece-is a b len {n} e h = sym (ends-last a b n h) ∙ ap (stepEnds a b) e
 
 module _ (rings : List (List P)) (rule : FillRule) where
   -- after a step the pen knows whether it is inside
@@ -65,10 +70,6 @@ module _ (rings : List (List P)) (rule : FillRule) where
       step-last g h w =
           going-end (onTo rings rule) (going-next (onTo rings rule) b [] (going-at (onTo rings rule) (ap (λ (l : List P). l ++ (b ∷ [])) (steps-none a b n i h)) g) w)
 
-  pub piece-is : (a b : P) (len : Float) {n : ℕ} → n ≡ pieceSteps a b len → 0 < n → stepsFrom a b n 1 (n - 1) ++ (b ∷ []) ≡ piece a b len
-  unfolding piece
-  piece-is a b len {n} e h = sym (ends-last a b n h) ∙ ap (stepEnds a b) e
-
   pub piece-none : (a b : P) (len : Float) {n : ℕ} → n ≡ pieceSteps a b len → n ≡ 0 → (s : Pen) (out : List Float) (ends : List ℕ) → s .points < 2 ^ 64 → s .lines < 2 ^ 64 → Sewed (run (onTo rings rule) (piece a b len) s) s s out out ends ends
   unfolding piece stepEnds run
   piece-none a b len e z s out ends few less = rw (sym e ∙ z) (sewed-none s out ends few less)
@@ -76,24 +77,21 @@ module _ (rings : List (List P)) (rule : FillRule) where
   -- ---- the pieces of a path, from smooth point c and grid point k on, where the point before k stands at a
 
   module _ (g : Lattice) (len : Float) (path : List ℕ) where
-    pub ahead : P → P → ℕ → List P
-    ahead c a k = piecesFrom c (smoothFrom a (map (place g) (drop k path))) len
-
     module _ (c a : P) (k : ℕ) where
-      ahead-next : k < length path → {b l r : P} → b ≡ place g (getD path k 0) → l ≡ lerp a b (literal 3 10) → r ≡ lerp a b (literal 7 10) → ahead c a k ≡ piece c l len ++ (piece l r len ++ ahead r b (k + 1))
+      ahead-next : k < length path → {b l r : P} → b ≡ place g (getD path k 0) → l ≡ lerp a b (literal 3 10) → r ≡ lerp a b (literal 7 10) → ahead g len path c a k ≡ piece c l len ++ (piece l r len ++ ahead g len path r b (k + 1))
       unfolding ahead smoothFrom piecesFrom
       ahead-next h d e f = rw (next path k 0 h, e, f, d)
 
-      ahead-none : length path ≤ k → ahead c a k ≡ piece c a len ++ []
+      ahead-none : length path ≤ k → ahead g len path c a k ≡ piece c a len ++ []
       unfolding ahead smoothFrom piecesFrom
       ahead-none h = rw (none path k h)
 
-      module _ {s₀ s : Pen} {out₀ out : List Float} {ends₀ ends : List ℕ} {whole : List P} (w : Going (onTo rings rule) s₀ s out₀ out ends₀ ends (ahead c a k) whole) where
+      module _ {s₀ s : Pen} {out₀ out : List Float} {ends₀ ends : List ℕ} {whole : List P} (w : Going (onTo rings rule) s₀ s out₀ out ends₀ ends (ahead g len path c a k) whole) where
         pub turn-on : k < length path → {b l r : P} → b ≡ place g (getD path k 0) → l ≡ lerp a b (literal 3 10) → r ≡ lerp a b (literal 7 10)
             → {t u : Pen} {out₁ out₂ : List Float} {ends₁ ends₂ : List ℕ} → Sewed (run (onTo rings rule) (piece c l len) s) s t out out₁ ends ends₁ → Sewed (run (onTo rings rule) (piece l r len) t) t u out₁ out₂ ends₁ ends₂
-            → Going (onTo rings rule) s₀ u out₀ out₂ ends₀ ends₂ (ahead r b (k + 1)) whole
+            → Going (onTo rings rule) s₀ u out₀ out₂ ends₀ ends₂ (ahead g len path r b (k + 1)) whole
         turn-on h {b} {l} {r} d e f v x =
-            going-on (onTo rings rule) (piece l r len) (ahead r b (k + 1)) (going-on (onTo rings rule) (piece c l len) (piece l r len ++ ahead r b (k + 1)) (going-at (onTo rings rule) (ahead-next h d e f) w) v) x
+            going-on (onTo rings rule) (piece l r len) (ahead g len path r b (k + 1)) (going-on (onTo rings rule) (piece c l len) (piece l r len ++ ahead g len path r b (k + 1)) (going-at (onTo rings rule) (ahead-next h d e f) w) v) x
 
         pub turn-last : length path ≤ k → {t : Pen} {out₁ : List Float} {ends₁ : List ℕ} → Sewed (run (onTo rings rule) (piece c a len) s) s t out out₁ ends ends₁ → Sewed (run (onTo rings rule) whole s₀) s₀ t out₀ out₁ ends₀ ends₁
         turn-last h v = going-end (onTo rings rule) (going-on (onTo rings rule) (piece c a len) [] (going-at (onTo rings rule) (ahead-none h) w) v)
@@ -136,14 +134,14 @@ module _ (rings : List (List P)) (rule : FillRule) where
 
     pub path-sewed : (path : List ℕ) → 1 < length path → (p : P) {t : Float} (s : Pen) {b u v : Pen} {out out′ : List Float} {ends ends₁ ends₂ : List ℕ} → p ≡ place g (getD path 0 0) → t ≡ larger len (real (pos 5)) → b ≡ begin rings rule p s
         → length out < 2 ^ 64 → length ends < 2 ^ 64 → s .points < 2 ^ 64 → s .lines < 2 ^ 64
-        → Sewed (run (onTo rings rule) (ahead g t path p p 1) b) b u out out′ ends ends₁ → v ≡ finish u .pen → Wrote ends₁ ends₂ (u .lines) (finish u .ends) → Sewed (alongPath rings rule g len path s) s v out out′ ends ends₂
+        → Sewed (run (onTo rings rule) (ahead g t path (place g (getD path 0 0)) (place g (getD path 0 0)) 1) b) b u out out′ ends ends₁ → v ≡ finish u .pen → Wrote ends₁ ends₂ (u .lines) (finish u .ends) → Sewed (alongPath rings rule g len path s) s v out out′ ends ends₂
     unfolding alongPath clipLine
     path-sewed path h p {t} s {b} {u} {v} {out} {out′} {ends} {ends₁} {ends₂} e f d long longer few less w x y =
         let p₀ = place g (getD path 0 0) in
         let b₀ = begin rings rule p₀ s in
         let line = ahead g (larger len (real (pos 5))) path p₀ p₀ 1 in
         let e₀ : b ≡ b₀ = d ∙ ap (λ (q : P). begin rings rule q s) e in
-        let w₀ : Sewed (run (onTo rings rule) line b₀) b₀ u out out′ ends ends₁ = subst (λ (q : Pen). Sewed (run (onTo rings rule) line q) q u out out′ ends ends₁) e₀ (rw (e, f) at w) in
+        let w₀ : Sewed (run (onTo rings rule) line b₀) b₀ u out out′ ends ends₁ = subst (λ (q : Pen). Sewed (run (onTo rings rule) line q) q u out out′ ends ends₁) e₀ (rw f at w) in
         let few₁ : u .points < 2 ^ 64 = rw (w₀ .count) (held-few (b₀ .points) (length (run (onTo rings rule) line b₀ .points))) in
         let z = sewed-both long longer (rw (begin-points p₀ s) few) (rw (begin-lines p₀ s) less) w₀ (sewed-finish out′ few₁ x y) in
         let z₀ : Sewed (both (run (onTo rings rule) line b₀) (finish (run (onTo rings rule) line b₀ .pen))) b₀ v out out′ ends ends₂ = subst (λ (q : Pen). Sewed (both (run (onTo rings rule) line b₀) (finish q)) b₀ v out out′ ends ends₂) (w₀ .pen) z in

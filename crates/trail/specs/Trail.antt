@@ -2,8 +2,8 @@
 use Prim.Native.Nat.{ℕ, _+_, _-_, _*_, _^_, _<_}
 use mathlib.Core.Path.{_≡_}
 use mathlib.Core.Bool.{Bool, false}
-use mathlib.Core.List.{List, [], _∷_, _++_}
-use lib.ListN.{length}
+use mathlib.Core.List.{List, [], _∷_, _++_, map}
+use lib.ListN.{length, drop}
 use lib.Ieee.{Float}
 use Rattle.seqs.specs.Lists.{each}
 use Rattle.seqs.specs.Slices.{capped, Wrote}
@@ -12,12 +12,13 @@ use Rattle.geom.specs.Outline.{cut}
 use Rattle.geom.specs.Sewing.{flat}
 use Rattle.outlines.specs.declared.rule.FillRule.{FillRule}
 use Rattle.outlines.specs.Inside.{pointInside}
+use Rattle.polyline.specs.Line.{piecesFrom}
 use Rattle.rules.specs.Calls.{sewnPoints}
 use Rattle.patterns_rules.specs.declared.Count.{Count}
 use Rattle.patterns_rules.specs.Patterns.{pieceInside}
 use Rattle.clip.specs.Clip.{added, ended}
 use Rattle.meander_rules.specs.declared.Lattice.{Lattice}
-use Rattle.meander_rules.specs.Meander.{denseAlong, linesAlong}
+use Rattle.meander_rules.specs.Meander.{place, smoothFrom, denseAlong, linesAlong}
 use Rattle.trail.specs.declared.pen.Pen.{Pen}
 
 -- the lines of all walks, whose paths stand one behind the other and end at the stops
@@ -79,6 +80,10 @@ module _ (rings : List (List P)) (rule : FillRule) where
   -- the line along a path
   unfoldable pub alongPath : Lattice → Float → List ℕ → Pen → Done
   alongPath g len path s = clipLine (denseAlong g len path) s
+
+-- the points after smooth point c, on the way from a to grid point k of the path and along what is left of it
+unfoldable pub ahead : Lattice → Float → List ℕ → P → P → ℕ → List P
+ahead g len path c a k = piecesFrom c (smoothFrom a (map (place g) (drop k path))) len
 
 -- ---- what the code does to two slices, of points and of ends: it writes where there is room, and counts always
 

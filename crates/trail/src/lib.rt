@@ -56,7 +56,18 @@ fn over_paths(
     let mut k = 0;
     while k < breaks.len() {
         let e = breaks[k];
-        pen = over_path(out, stops, &paths[a..e], g, len, corners, ends, h, rule, pen);
+        pen = over_path(
+            out,
+            stops,
+            &paths[a..e],
+            g,
+            len,
+            corners,
+            ends,
+            h,
+            rule,
+            pen,
+        );
         a = e;
         k += 1;
     }
@@ -79,7 +90,19 @@ fn count(
 {
     let mut out = [0.0f64; 1];
     let mut stops = [0usize; 1];
-    let pen = over_paths(&mut out, &mut stops, paths, breaks, g, len, corners, ends, h, rule, idle());
+    let pen = over_paths(
+        &mut out,
+        &mut stops,
+        paths,
+        breaks,
+        g,
+        len,
+        corners,
+        ends,
+        h,
+        rule,
+        idle(),
+    );
     Count {
         lines: pen.lines,
         points: pen.points,
@@ -117,7 +140,19 @@ pub fn lines_along(
             points: 0,
         };
     }
-    over_paths(out, stops, paths, breaks, g, len, corners, ends, h, rule, idle());
+    over_paths(
+        out,
+        stops,
+        paths,
+        breaks,
+        g,
+        len,
+        corners,
+        ends,
+        h,
+        rule,
+        idle(),
+    );
     Lines {
         answer: DONE,
         lines: c.lines as u64,
