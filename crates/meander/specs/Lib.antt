@@ -2,3 +2,4 @@
 pub mod Stopped
 pub mod StoppedLaws
 pub mod PathLaws
+pub mod Visits

@@ -44,7 +44,18 @@ fn sew_paths(
     let b = a + t.size;
     let c = 4 * n;
     let d = c + t.walks;
-    lines_along(&w[a..b], &w[c..d], g, len, corners, ends, h, rule, out, stops)
+    lines_along(
+        &w[a..b],
+        &w[c..d],
+        g,
+        len,
+        corners,
+        ends,
+        h,
+        rule,
+        out,
+        stops,
+    )
 }
 
 // The whole meander, with the outline's heights.
