@@ -8,6 +8,7 @@ pub mod fill;
 pub mod geom;
 mod jobs;
 pub mod leaves;
+pub mod meander;
 pub mod patterns;
 mod records;
 mod salvage;
@@ -536,6 +537,7 @@ pub fn groups() -> Vec<Group> {
         group("fill", fill::functions()),
         group("jobs", jobs::functions()),
         group("patterns", patterns::functions()),
+        group("meander", meander::functions()),
         group("satin", satin::functions()),
         group(
             "machine",
