@@ -115,6 +115,8 @@ uint64_t beahcerot_clip_inside(const double *line, size_t line_len, const double
 
 uint64_t beahcerot_cross_stitch(const double *corners, size_t corners_len, const size_t *ends, size_t ends_len, uint64_t rule, double cell, double *out, size_t out_len, size_t *stops, size_t stops_len, uint64_t *lines, uint64_t *points);
 
+uint64_t beahcerot_meander(const double *corners, size_t corners_len, const size_t *ends, size_t ends_len, uint64_t rule, double spacing, double len, uint64_t seed, double *out, size_t out_len, size_t *stops, size_t stops_len, size_t *wholes, size_t wholes_len, uint64_t *lines, uint64_t *points);
+
 uint64_t beahcerot_dot(double ax, double ay, double bx, double by, double *value);
 
 uint64_t beahcerot_len(double x, double y, double *value);

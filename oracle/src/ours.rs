@@ -492,7 +492,9 @@ pub mod fill {
 
 /// Bounds, clipping and cross stitch.
 pub mod patterns {
-    use super::raw::{beahcerot_bounds, beahcerot_clip_inside, beahcerot_cross_stitch};
+    use super::raw::{
+        beahcerot_bounds, beahcerot_clip_inside, beahcerot_cross_stitch, beahcerot_meander,
+    };
     use crate::inputs::outlines::Outline;
     use zigzag::geom::FillRule;
 
@@ -556,6 +558,38 @@ pub mod patterns {
                 lent.out.len(),
                 lent.stops.as_mut_ptr().cast(),
                 lent.stops.len(),
+                lent.lines,
+                lent.points,
+            )
+        }
+    }
+
+    pub fn meander(
+        o: &Outline,
+        rule: FillRule,
+        spacing: f64,
+        len: f64,
+        seed: u64,
+        lent: Lent,
+        wholes: &mut [u64],
+    ) -> u64 {
+        let (c, e, rule) = (&o.corners, &o.ends, rule as u64);
+        unsafe {
+            beahcerot_meander(
+                c.as_ptr(),
+                c.len(),
+                e.as_ptr().cast(),
+                e.len(),
+                rule,
+                spacing,
+                len,
+                seed,
+                lent.out.as_mut_ptr(),
+                lent.out.len(),
+                lent.stops.as_mut_ptr().cast(),
+                lent.stops.len(),
+                wholes.as_mut_ptr().cast(),
+                wholes.len(),
                 lent.lines,
                 lent.points,
             )

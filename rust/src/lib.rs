@@ -19,7 +19,7 @@ pub use fill::{
 };
 pub use line::running;
 pub use mending::{Dropped, Reason, salvage};
-pub use pattern::{bounds, clip_inside, cross_stitch};
+pub use pattern::{bounds, clip_inside, cross_stitch, meander};
 pub use refusal::Refusal;
 pub use satin::{
     Rails, SatinParams, SatinStyle, column, pairs, s_stitch, split_long, top, underlay,

@@ -1,6 +1,8 @@
-//! Bounds, clipping and cross stitch.
+//! Bounds, clipping, cross stitch and meander.
 
-use crate::raw::{beahcerot_bounds, beahcerot_clip_inside, beahcerot_cross_stitch};
+use crate::raw::{
+    beahcerot_bounds, beahcerot_clip_inside, beahcerot_cross_stitch, beahcerot_meander,
+};
 use crate::room::{Room, lend};
 use crate::{FillRule, P, Polyline, Refusal, flat, lines, outline};
 
@@ -81,6 +83,47 @@ pub fn cross_stitch(
                 out.len(),
                 stops.as_mut_ptr(),
                 stops.len(),
+                &mut rows,
+                &mut count,
+            )
+        };
+        (answer, lines(&out, &stops[..rows as usize]))
+    })
+}
+
+/// Lines that wander over the shape, through every point of a grid that lies inside and can be reached.
+pub fn meander(
+    rings: &[Polyline],
+    rule: FillRule,
+    spacing: f64,
+    len: f64,
+    seed: u64,
+) -> Result<Vec<Polyline>, Refusal> {
+    let (corners, ends) = outline(rings);
+    let room = Room {
+        work: 8192,
+        out: 8192,
+    };
+    lend(room, |room| {
+        let (mut out, mut stops) = (vec![0.0; room.out], vec![0; room.out / 4]);
+        let mut wholes = vec![0; room.work];
+        let (mut rows, mut count) = (0, 0);
+        let answer = unsafe {
+            beahcerot_meander(
+                corners.as_ptr(),
+                corners.len(),
+                ends.as_ptr(),
+                ends.len(),
+                rule.number(),
+                spacing,
+                len,
+                seed,
+                out.as_mut_ptr(),
+                out.len(),
+                stops.as_mut_ptr(),
+                stops.len(),
+                wholes.as_mut_ptr(),
+                wholes.len(),
                 &mut rows,
                 &mut count,
             )

@@ -46,6 +46,7 @@ unsafe extern "C" {
     pub fn beahcerot_bounds(corners: *const f64, corners_len: usize, ends: *const usize, ends_len: usize, left: *mut f64, top: *mut f64, right: *mut f64, bottom: *mut f64) -> u64;
     pub fn beahcerot_clip_inside(line: *const f64, line_len: usize, corners: *const f64, corners_len: usize, ends: *const usize, ends_len: usize, rule: u64, out: *mut f64, out_len: usize, stops: *mut usize, stops_len: usize, lines: *mut u64, points: *mut u64) -> u64;
     pub fn beahcerot_cross_stitch(corners: *const f64, corners_len: usize, ends: *const usize, ends_len: usize, rule: u64, cell: f64, out: *mut f64, out_len: usize, stops: *mut usize, stops_len: usize, lines: *mut u64, points: *mut u64) -> u64;
+    pub fn beahcerot_meander(corners: *const f64, corners_len: usize, ends: *const usize, ends_len: usize, rule: u64, spacing: f64, len: f64, seed: u64, out: *mut f64, out_len: usize, stops: *mut usize, stops_len: usize, wholes: *mut usize, wholes_len: usize, lines: *mut u64, points: *mut u64) -> u64;
     pub fn beahcerot_dot(ax: f64, ay: f64, bx: f64, by: f64, value: *mut f64) -> u64;
     pub fn beahcerot_len(x: f64, y: f64, value: *mut f64) -> u64;
     pub fn beahcerot_dist(ax: f64, ay: f64, bx: f64, by: f64, value: *mut f64) -> u64;

@@ -45,6 +45,7 @@ use Rattle.exports.proofs.border.beahcerot_column_room
 use Rattle.exports.proofs.pattern.beahcerot_bounds
 use Rattle.exports.proofs.pattern.beahcerot_clip_inside
 use Rattle.exports.proofs.pattern.beahcerot_cross_stitch
+use Rattle.exports.proofs.pattern.beahcerot_meander
 use Rattle.exports.proofs.fill.beahcerot_tatami
 use Rattle.exports.proofs.beneath.beahcerot_tatami_twice
 use Rattle.exports.proofs.fill.beahcerot_row_list
@@ -200,6 +201,9 @@ clip-inside-entry κs a x y h k = both (one (h .0) (k .0)) (λ i. (tt, (tt, (tt,
 
 pub cross-stitch-entry : One beahcerot_cross_stitch.ended beahcerot_cross_stitch.Reads.Learnt
 cross-stitch-entry κs a x y h k = both (one (h .0) (k .0)) (λ i. (tt, (tt, (tt, (tt, (one (h .3) (k .3) i, (one (h .4) (k .4) i, (one (h .1) (k .1) i, (one (h .2) (k .2) i, tt)))))))))
+
+pub meander-entry : One beahcerot_meander.ended beahcerot_meander.Reads.Learnt
+meander-entry κs a x y h k = both (one (h .0) (k .0)) (λ i. (tt, (tt, (tt, (tt, (tt, (tt, (one (h .3) (k .3) i, (one (h .4) (k .4) i, (one (h .5) (k .5) i, (one (h .1) (k .1) i, (one (h .2) (k .2) i, tt))))))))))))
 
 -- ---- the fill
 

@@ -58,6 +58,7 @@ use Rattle.satinroom.proofs.column_room
 use Rattle.patterns.proofs.bounds
 use Rattle.patterns.proofs.clip_inside
 use Rattle.patterns.proofs.cross_stitch
+use Rattle.meander.proofs.meander
 use Rattle.tatami.proofs.tatami
 use Rattle.tatami.proofs.row_list
 use Rattle.plain.proofs.tatami as plain_tatami
@@ -232,6 +233,9 @@ clip-inside-outcome κs a x y h k = both (one (h .0) (k .0)) (λ i. (tt, (tt, (t
 
 pub cross-stitch-outcome : One cross_stitch.ended cross_stitch.Reads.Learnt
 cross-stitch-outcome κs a x y h k = both (one (h .0) (k .0)) (λ i. (tt, (tt, (tt, (tt, (one (h .1) (k .1) i, (one (h .2) (k .2) i, tt)))))))
+
+pub meander-outcome : One meander.ended meander.Reads.Learnt
+meander-outcome κs a x y h k = both (one (h .0) (k .0)) (λ i. (tt, (tt, (tt, (tt, (tt, (tt, (one (h .1) (k .1) i, (one (h .2) (k .2) i, (one (h .3) (k .3) i, tt))))))))))
 
 -- ---- the fill
 

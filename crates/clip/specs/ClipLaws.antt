@@ -20,7 +20,7 @@ use Rattle.patterns_rules.specs.Patterns.{pieceInside, closed, opened, runsFrom
 use Rattle.clip.specs.Clip.{clipped, added, ended, pointsFrom, endsFrom}
 
 -- the run so far: two points or more where one is on, and none where none is
-abbrev Cur : Bool → List P → Type 0
+abbrev pub Cur : Bool → List P → Type 0
 Cur true cur = 2 ≤ length cur
 Cur false cur = cur ≡ []
 
@@ -56,7 +56,7 @@ module _ (rings : List (List P)) (rule : FillRule) where
   points-turn false true cur h p q line ih = rw (closed-on cur h) (ap (λ r. cur ++ r) (ih false [] refl))
   points-turn false false cur h p q line ih = rw (closed-off cur h, h) (ih false [] refl)
 
-  points-are : (on : Bool) (cur : List P) → Cur on cur → (p : P) (line : List P) → sewnPoints (runsFrom rings rule cur p line) ≡ cur ++ pointsFrom rings rule on p line
+  pub points-are : (on : Bool) (cur : List P) → Cur on cur → (p : P) (line : List P) → sewnPoints (runsFrom rings rule cur p line) ≡ cur ++ pointsFrom rings rule on p line
   unfolding sewnPoints runsFrom pointsFrom
   points-are true cur h p [] = rw (closed-on cur h)
   points-are false cur h p [] = rw (closed-off cur h, h)
@@ -72,19 +72,19 @@ module _ (rings : List (List P)) (rule : FillRule) where
   ends-turn false true cur h n p q line ih = rw (closed-on cur h) (ap (λ r. (n + length cur) ∷ r) (ih false [] refl (n + length cur)))
   ends-turn false false cur h n p q line ih = rw (closed-off cur h, h) (ih false [] refl n ∙ ap (λ (m : ℕ). endsFrom rings rule false m q line) (omega arith))
 
-  ends-are : (on : Bool) (cur : List P) → Cur on cur → (n : ℕ) (p : P) (line : List P) → sewnEnds n (runsFrom rings rule cur p line) ≡ endsFrom rings rule on (n + length cur) p line
+  pub ends-are : (on : Bool) (cur : List P) → Cur on cur → (n : ℕ) (p : P) (line : List P) → sewnEnds n (runsFrom rings rule cur p line) ≡ endsFrom rings rule on (n + length cur) p line
   unfolding sewnEnds runsFrom endsFrom
   ends-are true cur h n p [] = rw (closed-on cur h)
   ends-are false cur h n p [] = rw (closed-off cur h)
   ends-are on cur h n p (q ∷ line) = ends-turn (pieceInside rings rule p q) on cur h n p q line (λ on cur h n. ends-are on cur h n q line)
 
   -- each piece adds two points and closes one run at most
-  added-few : (k on : Bool) (p q : P) → length (added k on p q) ≤ 2
+  pub added-few : (k on : Bool) (p q : P) → length (added k on p q) ≤ 2
   added-few true true p q = omega arith
   added-few true false p q = omega arith
   added-few false on p q = omega arith
 
-  ended-few : (k on : Bool) (n : ℕ) → length (ended k on n) ≤ 1
+  pub ended-few : (k on : Bool) (n : ℕ) → length (ended k on n) ≤ 1
   ended-few true on n = omega arith
   ended-few false true n = omega arith
   ended-few false false n = omega arith

@@ -26,7 +26,7 @@ use refusal::DONE;
 use refusal::ROOM;
 
 // Whether the piece from p to q is kept, where `was` and `is` say whether its ends are inside.
-fn piece_inside(
+pub fn piece_inside(
     corners: &[f64],
     ends: &[usize],
     h: &[f64],
@@ -49,7 +49,7 @@ fn piece_inside(
 }
 
 // How many points a piece adds, where a run is on or not.
-fn added(kept: bool, on: bool, p: P, q: P) -> usize
+pub fn added(kept: bool, on: bool, p: P, q: P) -> usize
     ensures { λ r. ⌜ (r ≡ length (added kept on p q)) × (r ≤ 2) ⌝ }
 {
     if kept {
@@ -62,7 +62,7 @@ fn added(kept: bool, on: bool, p: P, q: P) -> usize
 }
 
 // How many runs it closes.
-fn ended(kept: bool, on: bool, n: usize) -> usize
+pub fn ended(kept: bool, on: bool, n: usize) -> usize
     ensures { λ r. ⌜ (r ≡ length (ended kept on n)) × (r ≤ 1) ⌝ }
 {
     if kept {
@@ -110,7 +110,7 @@ fn count(line: &[f64], corners: &[f64], ends: &[usize], h: &[f64], rule: FillRul
 }
 
 // The points that the piece from p to q adds to the n that stand in out.
-fn put_added(out: &mut [f64], n: usize, kept: bool, on: bool, p: P, q: P)
+pub fn put_added(out: &mut [f64], n: usize, kept: bool, on: bool, p: P, q: P)
     requires { ⌜ 2 * n + length (flat (added kept on p q)) ≤ length (now out) ⌝ }
     ensures { λ _. ⌜ now (out .exit) ≡ put (now (out .entry)) (2 * n) (flat (added kept on p q)) ⌝ }
 {
@@ -126,7 +126,7 @@ fn put_added(out: &mut [f64], n: usize, kept: bool, on: bool, p: P, q: P)
 }
 
 // The end n of the run that it closes, after s others.
-fn put_ended(stops: &mut [usize], s: usize, kept: bool, on: bool, n: usize)
+pub fn put_ended(stops: &mut [usize], s: usize, kept: bool, on: bool, n: usize)
     requires { ⌜ s + length (ended kept on n) ≤ length (now stops) ⌝ }
     ensures { λ _. ⌜ now (stops .exit) ≡ put (now (stops .entry)) s (ended kept on n) ⌝ }
 {

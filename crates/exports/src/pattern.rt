@@ -1,8 +1,9 @@
-// Bounds, clipping and cross stitch: each answers document 01's number; the bounds are stored where that is DONE, the counts always, 0 after a refusal.
+// Bounds, clipping, cross stitch and meander: each answers document 01's number; the bounds are stored where that is DONE, the counts always, 0 after a refusal.
 ghost use mathlib.Core.Path.{_≡_};
 ghost use lib.ListN.{length};
 ghost use Rattle.patterns_rules.specs.Answers.{boundsAnswer, clipSaid, clipPoints, clipEnds, crossSaid, crossPoints, crossEnds};
 ghost use Rattle.patterns.specs.Said.{saidBox};
+ghost use Rattle.meander_rules.specs.Answers.{meanderSaid, meanderPoints, meanderEnds, meanderWholes};
 ghost use Rattle.exports.specs.Stored.{firstOr, ruleOf};
 use crate::shape::rule_of;
 use patterns::Box;
@@ -70,6 +71,38 @@ pub extern "C" fn beahcerot_cross_stitch(
     ensures { λ r. ⌜ (r ≡ crossSaid (now (corners .entry)) (now (ends .entry)) (ruleOf rule) cell (length (now (out .entry))) (length (now (stops .entry))) .answer) × (now (lines .exit) ≡ crossSaid (now (corners .entry)) (now (ends .entry)) (ruleOf rule) cell (length (now (out .entry))) (length (now (stops .entry))) .lines) × (now (points .exit) ≡ crossSaid (now (corners .entry)) (now (ends .entry)) (ruleOf rule) cell (length (now (out .entry))) (length (now (stops .entry))) .points) × (now (out .exit) ≡ crossPoints (now (corners .entry)) (now (ends .entry)) (ruleOf rule) cell (now (out .entry)) (now (stops .entry))) × (now (stops .exit) ≡ crossEnds (now (corners .entry)) (now (ends .entry)) (ruleOf rule) cell (now (out .entry)) (now (stops .entry))) ⌝ }
 {
     let r = patterns::cross_stitch(corners, ends, rule_of(rule), cell, out, stops);
+    *lines = r.lines;
+    *points = r.points;
+    r.answer
+}
+
+#[no_mangle]
+pub extern "C" fn beahcerot_meander(
+    corners: &[f64],
+    ends: &[usize],
+    rule: u64,
+    spacing: f64,
+    len: f64,
+    seed: u64,
+    out: &mut [f64],
+    stops: &mut [usize],
+    wholes: &mut [usize],
+    lines: &mut u64,
+    points: &mut u64,
+) -> u64
+    ensures { λ r. ⌜ (r ≡ meanderSaid (now (corners .entry)) (now (ends .entry)) (ruleOf rule) spacing len seed (length (now (out .entry))) (length (now (stops .entry))) (length (now (wholes .entry))) .answer) × (now (lines .exit) ≡ meanderSaid (now (corners .entry)) (now (ends .entry)) (ruleOf rule) spacing len seed (length (now (out .entry))) (length (now (stops .entry))) (length (now (wholes .entry))) .lines) × (now (points .exit) ≡ meanderSaid (now (corners .entry)) (now (ends .entry)) (ruleOf rule) spacing len seed (length (now (out .entry))) (length (now (stops .entry))) (length (now (wholes .entry))) .points) × (now (out .exit) ≡ meanderPoints (now (corners .entry)) (now (ends .entry)) (ruleOf rule) spacing len seed (now (out .entry)) (now (stops .entry)) (now (wholes .entry))) × (now (stops .exit) ≡ meanderEnds (now (corners .entry)) (now (ends .entry)) (ruleOf rule) spacing len seed (now (out .entry)) (now (stops .entry)) (now (wholes .entry))) × (now (wholes .exit) ≡ meanderWholes (now (corners .entry)) (now (ends .entry)) (ruleOf rule) spacing len seed (now (out .entry)) (now (stops .entry)) (now (wholes .entry))) ⌝ }
+{
+    let r = meander::meander(
+        corners,
+        ends,
+        rule_of(rule),
+        spacing,
+        len,
+        seed,
+        out,
+        stops,
+        wholes,
+    );
     *lines = r.lines;
     *points = r.points;
     r.answer

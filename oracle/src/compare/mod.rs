@@ -9,6 +9,7 @@ pub mod fill;
 pub mod geom;
 mod jobs;
 pub mod leaves;
+pub mod meander;
 pub mod patterns;
 mod plain;
 mod records;
@@ -539,6 +540,7 @@ pub fn groups() -> Vec<Group> {
         group("fill", fill::functions()),
         group("jobs", jobs::functions()),
         group("patterns", patterns::functions()),
+        group("meander", meander::functions()),
         group("satin", satin::functions()),
         group(
             "machine",
