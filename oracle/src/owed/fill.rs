@@ -130,13 +130,7 @@ fn sewn(f: &Fill, lent: &[usize], equal: Equal, engine: Engine) -> Left {
     if !fits(&work(f, pieces.len(), engine), &lent[..2]) {
         return refused(WORK);
     }
-    sewn(f, &pieces, lent, equal)
-}
-
-/// The same once the working slices are long enough.
-fn sewn(f: &Fill, pieces: &[Piece], lent: &[usize], equal: Equal) -> Left {
-    let refused = |answer| left(answer, lent, WORKING, vec![0; 2], &[]);
-    if 2 * points_at_least(pieces, f.len) > lent[2] as u64 {
+    if 2 * points_at_least(&pieces, f.len) > lent[2] as u64 {
         return refused(ROOM);
     }
     let mut points = Vec::new();
@@ -182,22 +176,13 @@ fn table(f: &Fill, lent: &[usize]) -> u64 {
     expect::first(&[(WORK, fits(&[6 * edges, 4 * edges], lent))])
 }
 
-/// One fill over a table with that answer: 3, 5, 6 (4I and 6I) and 7.
+/// One fill over a table with that answer: 3, 5, 6 (4I and 6I, as of the plain
+/// engine) and 7.
 fn layer(f: &Fill, table: u64, lent: &[usize], equal: Equal) -> Left {
-    let refused = |answer| left(answer, lent, WORKING, vec![0; 2], &[]);
     if table != DONE {
-        return refused(table);
+        return left(table, lent, WORKING, vec![0; 2], &[]);
     }
-    let first = gate(f);
-    if first != DONE {
-        return refused(first);
-    }
-    let pieces = pieces(f, equal);
-    let n = pieces.len();
-    if !fits(&[4 * n, 6 * n], &lent[..2]) {
-        return refused(WORK);
-    }
-    sewn(f, &pieces, lent, equal)
+    sewn(f, lent, equal, Engine::Plain)
 }
 
 /// What `row_list` owes where it is lent floats, wholes, floats for y, xa and
@@ -280,10 +265,7 @@ pub fn twice_need(f: &Fill, second: &Fill) -> Vec<usize> {
         DONE => kept(f).len(),
         _ => 1,
     };
-    let own = |f: &Fill| match tatami_need(f) {
-        Some(need) => vec![need[0] - 6 * table, need[1] - 4 * table, need[2], need[3]],
-        None => vec![5, 6, 7, 8],
-    };
+    let own = |f: &Fill| sewn_need(f, Engine::Plain).unwrap_or(vec![5, 6, 7, 8]);
     [vec![6 * table, 4 * table], own(f), own(second)].concat()
 }
 
