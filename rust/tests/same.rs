@@ -294,6 +294,11 @@ fn patterns_and_running_are_zigzags() {
             &ours::cross_stitch(&rings, rule, cell).unwrap(),
             &patterns::cross_stitch(&all_theirs(&rings), their_rule, cell),
         );
+        let (len, seed) = (s.number(1, 30), s.below(9));
+        same(
+            &ours::meander(&rings, rule, cell, len, seed).unwrap(),
+            &patterns::meander_to_corners(&all_theirs(&rings), their_rule, cell, len, seed),
+        );
         let n = s.below(30);
         let line = s.line(n);
         same(

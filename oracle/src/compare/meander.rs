@@ -9,7 +9,7 @@ use zigzag::geom::{FillRule, Polyline};
 use zigzag::patterns;
 
 pub fn functions() -> Vec<Function> {
-    vec![Function::new("meander", make, owed, gave, no_tie)]
+    vec![Function::new("meander", make, owed, gave, no_tie).usually(2_000)]
 }
 
 /// The largest grid that is walked.
@@ -106,7 +106,35 @@ fn near(rng: &mut Rng, need: usize, part: usize) -> usize {
     }
 }
 
-fn make(rng: &mut Rng, _: u64) -> Meander {
+/// The largest grid that is walked, 800 by 500 points, and one of 500 more: lent what they need, and nothing to work in.
+fn at_the_limit(n: u64) -> Meander {
+    let right = if n % 2 == 0 { 799.0 } else { 800.0 };
+    let outline = Outline {
+        corners: vec![0.0, 0.0, right, 0.0, right, 499.0, 0.0, 499.0],
+        ends: vec![4],
+    };
+    let (rule, spacing, len, seed) = (FillRule::NonZero, 1.0, 5.0, 7);
+    let made = lines(&outline, rule, spacing, len, seed);
+    Meander {
+        floats: 2 * made.concat().len(),
+        stops: made.len(),
+        wholes: if n < 2 {
+            need(&outline, spacing, len).1
+        } else {
+            0
+        },
+        outline,
+        rule,
+        spacing,
+        len,
+        seed,
+    }
+}
+
+fn make(rng: &mut Rng, n: u64) -> Meander {
+    if n < 4 {
+        return at_the_limit(n);
+    }
     let (outline, fits) = badges::any(rng);
     let spacing = match rng.below(8) {
         0 => setting(rng, SPACING),
