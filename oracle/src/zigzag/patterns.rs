@@ -77,105 +77,24 @@ pub fn meander(
     len: f64,
     seed: u64,
 ) -> Vec<Polyline> {
-    let (lo, hi) = bounds(rings);
-    if !lo.x.is_finite() {
-        return Vec::new();
-    }
-    let cols = ((hi.x - lo.x) / spacing).ceil() as usize + 1;
-    let rows = ((hi.y - lo.y) / spacing).ceil() as usize + 1;
-    if cols * rows > 400_000 {
-        return Vec::new();
-    }
-    let at = |c: usize, r: usize| P::new(lo.x + c as f64 * spacing, lo.y + r as f64 * spacing);
-    // Cells whose center is inside, and whose links to neighbours stay inside.
-    let inside: Vec<bool> = (0..cols * rows)
-        .map(|k| point_inside(rings, rule, at(k % cols, k / cols)))
-        .collect();
-    let mut visited = vec![false; cols * rows];
-    let mut rng = Rng::new(seed);
-    let mut out: Vec<Polyline> = Vec::new();
-    let link_ok = |a: usize, b: usize| {
-        segment_inside(
-            rings,
-            rule,
-            at(a % cols, a / cols),
-            at(b % cols, b / cols),
-            2.0,
-        )
-    };
-    for start in 0..cols * rows {
-        if !inside[start] || visited[start] {
-            continue;
-        }
-        // A depth-first walk from here: every step goes to an unvisited
-        // neighbour (random order); when stuck it walks back along its own
-        // path to the last cell with a free neighbour, which is still one
-        // continuous line.
-        let mut path: Vec<usize> = vec![start];
-        let mut stack: Vec<usize> = vec![start];
-        visited[start] = true;
-        while let Some(&here) = stack.last() {
-            let (c, r) = (here % cols, here / cols);
-            let mut opts: Vec<usize> = Vec::with_capacity(4);
-            if c > 0 {
-                opts.push(here - 1);
-            }
-            if c + 1 < cols {
-                opts.push(here + 1);
-            }
-            if r > 0 {
-                opts.push(here - cols);
-            }
-            if r + 1 < rows {
-                opts.push(here + cols);
-            }
-            // Random order.
-            for i in (1..opts.len()).rev() {
-                let j = rng.below(i + 1);
-                opts.swap(i, j);
-            }
-            let next = opts
-                .into_iter()
-                .find(|&n| inside[n] && !visited[n] && link_ok(here, n));
-            match next {
-                Some(n) => {
-                    visited[n] = true;
-                    stack.push(n);
-                    path.push(n);
-                }
-                None => {
-                    stack.pop();
-                    if let Some(&back) = stack.last() {
-                        path.push(back);
-                    }
-                }
-            }
-        }
-        if path.len() < 2 {
-            continue;
-        }
-        // Round the corners: a point a third of the way along each step,
-        // a Chaikin pass, then stitches every `len`.
-        let pts: Polyline = path.iter().map(|&k| at(k % cols, k / cols)).collect();
-        let mut smooth: Polyline = vec![pts[0]];
-        for w in pts.windows(2) {
-            smooth.push(w[0].lerp(w[1], 0.3));
-            smooth.push(w[0].lerp(w[1], 0.7));
-        }
-        smooth.push(*pts.last().unwrap());
-        let dense = crate::geom::resample_keep_corners(&smooth, len.max(5.0));
-        out.extend(clip_inside(&dense, rings, rule));
-    }
-    out
+    meander_by(
+        rings,
+        rule,
+        spacing,
+        len,
+        seed,
+        crate::geom::resample_keep_corners,
+    )
 }
 
-// added (request [7]): the same, resampled to the drawn corners themselves.
-pub fn meander_to_corners(
+// added: `meander` is cut where the line is resampled.
+fn meander_by(
     rings: &[Polyline],
     rule: FillRule,
     spacing: f64,
     len: f64,
     seed: u64,
+    resample: fn(&[P], f64) -> Polyline,
 ) -> Vec<Polyline> {
     let (lo, hi) = bounds(rings);
     if !lo.x.is_finite() {
@@ -263,10 +182,28 @@ pub fn meander_to_corners(
             smooth.push(w[0].lerp(w[1], 0.7));
         }
         smooth.push(*pts.last().unwrap());
-        let dense = crate::geom::resample_to_corners(&smooth, len.max(5.0));
+        let dense = resample(&smooth, len.max(5.0));
         out.extend(clip_inside(&dense, rings, rule));
     }
     out
+}
+
+// added (request [7]): the same, resampled to the drawn corners themselves.
+pub fn meander_to_corners(
+    rings: &[Polyline],
+    rule: FillRule,
+    spacing: f64,
+    len: f64,
+    seed: u64,
+) -> Vec<Polyline> {
+    meander_by(
+        rings,
+        rule,
+        spacing,
+        len,
+        seed,
+        crate::geom::resample_to_corners,
+    )
 }
 
 /// Cross-stitch: an X in every `cell`-sized square whose center is inside
