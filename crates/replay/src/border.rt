@@ -7,7 +7,7 @@ use crate::say;
 use crate::say::FLOAT;
 use crate::say::MARK;
 use crate::say::ROOM;
-use exports::border;
+use exports_other::border;
 
 fn pairs(a: &[f64], b: &[f64], sync: &[f64], step: f64, n: usize, m: usize) {
     let mut work = [FLOAT; ROOM];

@@ -12,7 +12,7 @@ use crate::say::FLOAT;
 use crate::say::MARK;
 use crate::say::ROOM;
 use crate::signed::of_bits;
-use exports::fill;
+use exports_fill::fill;
 
 fn fill_room(
     corners: &[f64],

@@ -10,7 +10,7 @@ use crate::say;
 use crate::say::FLOAT;
 use crate::say::MARK;
 use crate::say::ROOM;
-use exports::fill;
+use exports_fill::fill;
 
 // The lent slices are the outline's corners and ends, the working slices, the points and the ends of sections.
 fn filled(

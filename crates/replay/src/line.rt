@@ -14,9 +14,9 @@ use crate::say::FLOAT;
 use crate::say::MARK;
 use crate::say::ROOM;
 use crate::say::WORD;
-use exports::border;
 use exports::line;
-use exports::machine;
+use exports_other::border;
+use exports_other::machine;
 
 fn length(l: &[f64]) {
     let mut value = FLOAT;

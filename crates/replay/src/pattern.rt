@@ -9,7 +9,7 @@ use crate::say;
 use crate::say::FLOAT;
 use crate::say::MARK;
 use crate::say::ROOM;
-use exports::pattern;
+use exports_other::pattern;
 
 fn clip_inside(l: &[f64], corners: &[f64], ends: &[usize], rule: u64, n: usize, m: usize) {
     let mut out = [FLOAT; ROOM];

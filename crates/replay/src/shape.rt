@@ -7,8 +7,8 @@ use crate::say;
 use crate::say::FLOAT;
 use crate::say::MARK;
 use crate::signed;
-use exports::pattern;
 use exports::shape;
+use exports_other::pattern;
 
 fn winding(corners: &[f64], ends: &[usize], a: f64, b: f64) {
     let mut value = signed::of_bits(MARK as u64);

@@ -9,7 +9,7 @@ use crate::say;
 use crate::say::FLOAT;
 use crate::say::ROOM;
 use crate::say::WORD;
-use exports::sheets;
+use exports_other::sheets;
 
 fn store(
     words: &[usize],
