@@ -8,7 +8,8 @@ static uint16_t number_of(const struct call *c) {
 }
 
 static void book_store(const struct call *c) {
-    say_word(CALL(beahcerot_book_store, BYTES(c), number_of(c), FLOAT(c, 1), FLOAT(c, 2), FLOAT(c, 3), FLOAT(c, 4), WHOLE(c, 2)));
+    say_word(CALL(beahcerot_book_store, BYTES(c), number_of(c), FLOAT(c, 1), FLOAT(c, 2), FLOAT(c, 3), FLOAT(c, 4),
+                  WHOLE(c, 2)));
     say_bytes(list_length(c, 1));
 }
 
@@ -27,5 +28,8 @@ static void book_remove(const struct call *c) {
 }
 
 const struct entry books[] = {
-    {0x90, 1, 0, book_store}, {0x91, 1, 0, book_fetch}, {0x92, 1, 0, book_remove}, {0, 0, 0, NULL},
+    {0x90, 1, 0, book_store},
+    {0x91, 1, 0, book_fetch},
+    {0x92, 1, 0, book_remove},
+    {0, 0, 0, NULL},
 };

@@ -43,6 +43,11 @@ ROOM_OF(pairs_room, FLOAT(c, 1))
 ROOM_OF(column_room, SHEET(c))
 
 const struct entry columns[] = {
-    {0x60, 3, 2, pairs},       {0x61, 3, 0, pairs_room}, {0x62, 3, 2, column}, {0x63, 3, 0, column_room},
-    {0x64, 3, 2, underlay},    {0x65, 4, 2, top},        {0, 0, 0, NULL},
+    {0x60, 3, 2, pairs},
+    {0x61, 3, 0, pairs_room},
+    {0x62, 3, 2, column},
+    {0x63, 3, 0, column_room},
+    {0x64, 3, 2, underlay},
+    {0x65, 4, 2, top},
+    {0, 0, 0, NULL},
 };

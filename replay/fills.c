@@ -48,7 +48,8 @@ static void tatami_twice(const struct call *c) {
     const size_t *w = list_wholes(c, 3);
     uint64_t said[5] = {MARK, MARK, MARK, MARK, MARK};
     if (list_length(c, 3) != 6) stop("a second sheet has six numbers");
-    say_word(CALL(beahcerot_tatami_twice, OUTLINE(c), WHOLE(c, 1), FLOAT(c, 5), FLOAT(c, 6), FIRST(c), SECOND(x, w), TABLE(c), BELOW(c), ABOVE(c), said, said + 1, said + 2, said + 3, said + 4));
+    say_word(CALL(beahcerot_tatami_twice, OUTLINE(c), WHOLE(c, 1), FLOAT(c, 5), FLOAT(c, 6), FIRST(c), SECOND(x, w),
+                  TABLE(c), BELOW(c), ABOVE(c), said, said + 1, said + 2, said + 3, said + 4));
     for (size_t i = 0; i < 5; i++) say_word(said[i]);
     say_lent(c, 10);
 }
@@ -56,7 +57,8 @@ static void tatami_twice(const struct call *c) {
 /* A job by its bytes, which are list 1. Lent are the outline's corners and ends, and then a fill's four slices. */
 static void fill_job(const struct call *c) {
     uint64_t sections = MARK, count = MARK;
-    say_word(CALL(beahcerot_fill_job, BYTES(c), LENT(c, 0), LENT(c, 1), LENT(c, 2), LENT(c, 3), LENT(c, 4), LENT(c, 5), &sections, &count));
+    say_word(CALL(beahcerot_fill_job, BYTES(c), LENT(c, 0), LENT(c, 1), LENT(c, 2), LENT(c, 3), LENT(c, 4), LENT(c, 5),
+                  &sections, &count));
     say_word(sections);
     say_word(count);
     say_lent(c, 6);
@@ -64,6 +66,12 @@ static void fill_job(const struct call *c) {
 }
 
 const struct entry fills[] = {
-    {0x50, 2, 4, tatami},         {0x51, 2, 5, row_list},      {0x52, 2, 0, fill_room}, {0x53, 2, 4, plain_tatami},
-    {0x54, 2, 5, plain_row_list}, {0x55, 3, 10, tatami_twice}, {0x80, 1, 6, fill_job},  {0, 0, 0, NULL},
+    {0x50, 2, 4, tatami},
+    {0x51, 2, 5, row_list},
+    {0x52, 2, 0, fill_room},
+    {0x53, 2, 4, plain_tatami},
+    {0x54, 2, 5, plain_row_list},
+    {0x55, 3, 10, tatami_twice},
+    {0x80, 1, 6, fill_job},
+    {0, 0, 0, NULL},
 };

@@ -37,6 +37,12 @@ static void dst_read(const struct call *c) {
 }
 
 const struct entry lines[] = {
-    {0x40, 1, 0, polyline_length}, {0x41, 1, 1, resample_keep_corners}, {0x42, 1, 1, running},  {0x43, 1, 1, split_long},
-    {0x44, 1, 1, s_stitch},        {0x45, 1, 1, dst},                   {0x46, 1, 2, dst_read}, {0, 0, 0, NULL},
+    {0x40, 1, 0, polyline_length},
+    {0x41, 1, 1, resample_keep_corners},
+    {0x42, 1, 1, running},
+    {0x43, 1, 1, split_long},
+    {0x44, 1, 1, s_stitch},
+    {0x45, 1, 1, dst},
+    {0x46, 1, 2, dst_read},
+    {0, 0, 0, NULL},
 };

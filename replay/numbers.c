@@ -60,9 +60,23 @@ static void leaf_order(const struct call *c) {
 }
 
 const struct entry numbers[] = {
-    {0x00, 0, 0, root_of},     {0x01, 0, 0, floor_of},   {0x02, 0, 0, ceil_of},     {0x03, 0, 0, magnitude_of},
-    {0x04, 0, 0, smaller_of},  {0x05, 0, 0, larger_of},  {0x06, 0, 0, before},      {0x07, 0, 0, to_i64},
-    {0x08, 0, 0, to_u64},      {0x09, 0, 0, of_i64},     {0x0a, 0, 0, of_u64},      {0x10, 0, 0, leaf_root},
-    {0x11, 0, 0, leaf_floor},  {0x12, 0, 0, leaf_ceil},  {0x13, 0, 0, leaf_magnitude}, {0x14, 0, 0, leaf_smaller},
-    {0x15, 0, 0, leaf_larger}, {0x16, 0, 0, leaf_order}, {0, 0, 0, NULL},
+    {0x00, 0, 0, root_of},
+    {0x01, 0, 0, floor_of},
+    {0x02, 0, 0, ceil_of},
+    {0x03, 0, 0, magnitude_of},
+    {0x04, 0, 0, smaller_of},
+    {0x05, 0, 0, larger_of},
+    {0x06, 0, 0, before},
+    {0x07, 0, 0, to_i64},
+    {0x08, 0, 0, to_u64},
+    {0x09, 0, 0, of_i64},
+    {0x0a, 0, 0, of_u64},
+    {0x10, 0, 0, leaf_root},
+    {0x11, 0, 0, leaf_floor},
+    {0x12, 0, 0, leaf_ceil},
+    {0x13, 0, 0, leaf_magnitude},
+    {0x14, 0, 0, leaf_smaller},
+    {0x15, 0, 0, leaf_larger},
+    {0x16, 0, 0, leaf_order},
+    {0, 0, 0, NULL},
 };

@@ -17,7 +17,8 @@ static void point_inside(const struct call *c) {
 
 static void segment_inside(const struct call *c) {
     uint64_t value = MARK;
-    say_word(CALL(beahcerot_segment_inside, OUTLINE(c), WHOLE(c, 1), FLOAT(c, 1), FLOAT(c, 2), FLOAT(c, 3), FLOAT(c, 4), FLOAT(c, 5), &value));
+    say_word(CALL(beahcerot_segment_inside, OUTLINE(c), WHOLE(c, 1), FLOAT(c, 1), FLOAT(c, 2), FLOAT(c, 3), FLOAT(c, 4),
+                  FLOAT(c, 5), &value));
     say_word(value);
 }
 
@@ -40,6 +41,10 @@ static void salvage(const struct call *c) {
 }
 
 const struct entry outlines[] = {
-    {0x30, 2, 0, winding}, {0x31, 2, 0, point_inside}, {0x32, 2, 0, segment_inside},
-    {0x33, 2, 0, bounds},  {0x34, 2, 4, salvage},      {0, 0, 0, NULL},
+    {0x30, 2, 0, winding},
+    {0x31, 2, 0, point_inside},
+    {0x32, 2, 0, segment_inside},
+    {0x33, 2, 0, bounds},
+    {0x34, 2, 4, salvage},
+    {0, 0, 0, NULL},
 };

@@ -35,6 +35,14 @@ static void inside(const struct call *c) {
 }
 
 const struct entry points[] = {
-    {0x17, 0, 0, dot},  {0x18, 0, 0, len},    {0x19, 0, 0, dist}, {0x1a, 0, 0, cross},  {0x20, 0, 0, norm},
-    {0x21, 0, 0, perp}, {0x22, 0, 0, rotate}, {0x23, 0, 0, lerp}, {0x24, 0, 0, inside}, {0, 0, 0, NULL},
+    {0x17, 0, 0, dot},
+    {0x18, 0, 0, len},
+    {0x19, 0, 0, dist},
+    {0x1a, 0, 0, cross},
+    {0x20, 0, 0, norm},
+    {0x21, 0, 0, perp},
+    {0x22, 0, 0, rotate},
+    {0x23, 0, 0, lerp},
+    {0x24, 0, 0, inside},
+    {0, 0, 0, NULL},
 };
