@@ -4,17 +4,22 @@ use super::fill::replayed;
 use super::records::{self, Call, List, Owed};
 use super::{Function, Operands, Outcome, UNTOUCHED, no_tie};
 use crate::expect::LAYOUT;
-use crate::filled::filled;
+use crate::filled::{filled1, filled2};
 use crate::inputs::boundaries::boundaries;
 use crate::inputs::fills;
-use crate::job::{decode, job, relength, wanted_of};
+use crate::job::{decode, job, job2, relength, wanted1, wanted2};
 use crate::owed::fill;
 use crate::rng::Rng;
 
 pub fn functions() -> Vec<Function> {
-    let rust = |b: &Bytes| Listing(wanted_of(&b.0));
-    let ours = |b: &Bytes| Listing(filled(&b.0));
-    vec![Function::new("fill_job", bytes, rust, ours, no_tie).usually(20_000)]
+    let rust = |b: &Bytes| Listing(wanted1(&b.0));
+    let ours = |b: &Bytes| Listing(filled1(&b.0));
+    let rust2 = |b: &Bytes| Listing(wanted2(&b.0));
+    let ours2 = |b: &Bytes| Listing(filled2(&b.0));
+    vec![
+        Function::new("fill_job", bytes, rust, ours, no_tie).usually(20_000),
+        Function::new("fill_job2", bytes2, rust2, ours2, no_tie).usually(10_000),
+    ]
 }
 
 struct Bytes(Vec<u8>);
@@ -95,7 +100,33 @@ fn bytes(rng: &mut Rng, n: u64) -> Bytes {
     if let Some(bytes) = boundaries().get(n as usize).and_then(job) {
         return Bytes(bytes);
     }
-    let mut bytes = framed(rng);
+    let bytes = framed(rng);
+    damaged(rng, bytes)
+}
+
+/// The same of version 2: each boundary first as the one fill and then as the
+/// other; seldom a version 1 job.
+fn bytes2(rng: &mut Rng, n: u64) -> Bytes {
+    if let Some(f) = boundaries().get(n as usize / 2) {
+        let other = fills::beneath(rng, f);
+        let (first, second) = if n % 2 == 0 { (f, &other) } else { (&other, f) };
+        if let Some(bytes) = job2(first, second) {
+            return Bytes(bytes);
+        }
+    }
+    if rng.one_in(50) {
+        return Bytes(framed(rng));
+    }
+    loop {
+        let first = fills::any(rng);
+        if let Some(bytes) = job2(&first, &fills::beneath(rng, &first)) {
+            return damaged(rng, bytes);
+        }
+    }
+}
+
+/// Two in three with damage.
+fn damaged(rng: &mut Rng, mut bytes: Vec<u8>) -> Bytes {
     match rng.below(6) {
         // Some bits turned.
         0 | 1 => {
