@@ -70,7 +70,7 @@ use Rattle.fillroom.proofs.fill_room
 use Rattle.jobs.proofs.job.parse
 use Rattle.jobs.proofs.job2.parse2
 use Rattle.desk.proofs.fill_job
-use Rattle.desk.proofs.fill_job2
+use Rattle.desk.proofs.two.fill_job2
 use Rattle.dst.proofs.dst
 use Rattle.dst_read.proofs.dst_read
 use Rattle.salvage.proofs.salvage

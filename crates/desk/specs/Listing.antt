@@ -19,16 +19,17 @@ use Rattle.desk.specs.Desk2.{job2Left}
 abbrev pub listingOf : Left → List ℕ
 listingOf l = listing (l .said .answer) (l .said .sections) (l .said .points) (l .points) (l .ends)
 
--- the program lends 2,048 floats and 255 ends for the outline, 4,096 points, 512 sections and 8,192 of each working kind
+-- the program lends a fill 4,096 points, 512 sections and 8,192 of each working kind
+abbrev pub lent : Slices
+lent = slices (replicate 8192 zero64) (replicate 512 0) (replicate 8192 zero64) (replicate 8192 0)
+
+-- and 2,048 floats and 255 ends for the outline
 abbrev pub lentLeft : List ℕ → Left
-lentLeft s = jobLeft s 2048 255 (replicate 8192 zero64) (replicate 512 0) (replicate 8192 zero64) (replicate 8192 0)
+lentLeft s = jobLeft s 2048 255 (lent .points) (lent .stops) (lent .floats) (lent .wholes)
 
--- and for a version 2 job as much for each fill, and 8,192 of each kind for the table
-abbrev pub lentSlices : Slices
-lentSlices = slices (replicate 8192 zero64) (replicate 512 0) (replicate 8192 zero64) (replicate 8192 0)
-
+-- for a version 2 job each fill as a lone one, and the table as much as a fill's working slices
 abbrev pub lentLeft2 : List ℕ → Twice
-lentLeft2 s = job2Left s 2048 255 lentSlices lentSlices (replicate 8192 zero64) (replicate 8192 0)
+lentLeft2 s = job2Left s 2048 255 lent lent (lent .floats) (lent .wholes)
 
 -- one listing, and the first fill's and then the second's where the version byte is there and is 2
 unfoldable pub printed1 : List ℕ → List ℕ

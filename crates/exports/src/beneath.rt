@@ -8,7 +8,7 @@ ghost use Rattle.desk.specs.Desk2.{job2Left};
 ghost use Rattle.exports.specs.Stored.{ruleOf};
 ghost use Rattle.exports.specs.Fills.{filled, layer};
 use crate::shape::rule_of;
-use desk::fill_job2;
+use desk::two::fill_job2;
 use layers::Layer;
 use layers::tatami_twice;
 

@@ -10,7 +10,7 @@ ghost use Rattle.desk.specs.Desk.{jobLeft};
 ghost use Rattle.desk.specs.Desk2.{job2Left};
 ghost use Rattle.desk.specs.Listing.{printed, printed1, printed2, Seen};
 use desk::fill_job;
-use desk::fill_job2;
+use desk::two::fill_job2;
 use jobs::listing;
 use layers::Both;
 use libc::STDIN_FILENO;

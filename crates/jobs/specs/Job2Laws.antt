@@ -6,6 +6,7 @@ use Prim.Native.Nat.{ℕ, _-_, _≤_, _<_}
 use native.Mathlib.Omega.{arith}
 use lib.Dec.{leb}
 use lib.ListN.{length, take, drop, length-drop}
+use lib.Ieee.{Float}
 use lib.Seq.{take-all, drop-drop}
 use borrow.Author.Tests.{leb-true}
 use Rattle.seqs.specs.Tests.{and-both}
@@ -14,9 +15,9 @@ use Rattle.jobs.specs.declared.job.Parsed.{Parsed}
 use Rattle.jobs.specs.declared.job.Parsed.the-variants.{Done, Refused}
 use Rattle.jobs.specs.declared.job2.Second.{Second}
 use Rattle.jobs.specs.declared.job2.Parsed2.the-variants.{Done as Done2, Refused as Refused2}
-use Rattle.jobs.specs.Job.{byte, counted, framedJob, roomed, left}
+use Rattle.jobs.specs.Job.{byte, counted, endsFrom, cornersFrom, framedJob, roomed, front, left}
 use Rattle.jobs.specs.Theorems.{Accepted, accepted, lent-enough}
-use Rattle.jobs.specs.Job2.{goodHead2, secondOf, decoded2, withSecond, parsed2, left2}
+use Rattle.jobs.specs.Job2.{goodHead2, secondOf, corners2, ends2, decoded2, withSecond, parsed2}
 
 pub head2-long : (s : List ℕ) → goodHead2 s ≡ true → 97 ≤ length s
 unfolding goodHead2
@@ -48,6 +49,19 @@ module _ (s : List ℕ) (floats ends : ℕ) where
 
     pub parsed2-done : {j : Job} {k : Second} → q ≡ Done j → k ≡ secondOf s → Done2 j k ≡ parsed2 s floats ends
     parsed2-done {j} e h = ap (Done2 j) h ∙ ap (withSecond s) (sym e) ∙ parsed2-framed
+
+-- what they leave in the lent slices
+pub left-kept : {A : Type 0} {q : Parsed} {n : ℕ} → q ≡ Refused n → (l d : List A) {x : List A} → x ≡ left q l d → x ≡ d
+left-kept e l d h = h ∙ ap (λ z. left z l d) e
+
+module _ (s : List ℕ) {q : Parsed} {j : Job} (e : q ≡ Done j) where
+  pub left-corners2 : (d : List Float) {x : List Float} → x ≡ left q (cornersFrom (byte 7 s) (drop 60 (behind37 s))) d → x ≡ front (corners2 s) d
+  unfolding corners2
+  left-corners2 d h = h ∙ (λ i. left (e i) (cornersFrom (byte 7 s) (rings-at s i)) d)
+
+  pub left-ends2 : (d : List ℕ) {x : List ℕ} → x ≡ left q (endsFrom (byte 7 s) 0 (drop 60 (behind37 s))) d → x ≡ front (ends2 s) d
+  unfolding ends2
+  left-ends2 d h = h ∙ (λ i. left (e i) (endsFrom (byte 7 s) 0 (rings-at s i)) d)
 
 -- ---- what the caller knows
 
