@@ -32,8 +32,8 @@ fn refused(n: u64) -> Both
 }
 
 // What is a fill's own.
-fn layer_of(g: Settings, stagger: u64, bottom_up: bool) -> Layer
-    ensures { λ r. ⌜ r ≡ layerOf g stagger bottom_up ⌝ }
+fn layer_of(g: Settings, stagger: u64, upward: bool) -> Layer
+    ensures { λ r. ⌜ r ≡ layerOf g stagger upward ⌝ }
 {
     Layer {
         spacing: g.spacing,
@@ -41,7 +41,7 @@ fn layer_of(g: Settings, stagger: u64, bottom_up: bool) -> Layer
         inset: g.inset,
         pull: g.pull,
         stagger,
-        upward: bottom_up,
+        upward,
     }
 }
 
