@@ -37,6 +37,8 @@ uint64_t beahcerot_plain_row_list(const double *corners, size_t corners_len, con
 
 uint64_t beahcerot_tatami_twice(const double *corners, size_t corners_len, const size_t *ends, size_t ends_len, uint64_t rule, double cosine, double sine, double spacing, double len, double inset, double pull, uint64_t stagger, bool upward, double spacing2, double len2, double inset2, double pull2, uint64_t stagger2, bool upward2, double *table, size_t table_len, size_t *places, size_t places_len, double *floats, size_t floats_len, size_t *wholes, size_t wholes_len, double *points, size_t points_len, size_t *stops, size_t stops_len, double *floats2, size_t floats2_len, size_t *wholes2, size_t wholes2_len, double *points2, size_t points2_len, size_t *stops2, size_t stops2_len, uint64_t *sections, uint64_t *count, uint64_t *answer2, uint64_t *sections2, uint64_t *count2);
 
+uint64_t beahcerot_fill_job2(const uint8_t *bytes, size_t bytes_len, double *corners, size_t corners_len, size_t *ends, size_t ends_len, double *table, size_t table_len, size_t *places, size_t places_len, double *floats, size_t floats_len, size_t *wholes, size_t wholes_len, double *points, size_t points_len, size_t *stops, size_t stops_len, double *floats2, size_t floats2_len, size_t *wholes2, size_t wholes2_len, double *points2, size_t points2_len, size_t *stops2, size_t stops2_len, uint64_t *sections, uint64_t *count, uint64_t *answer2, uint64_t *sections2, uint64_t *count2);
+
 uint64_t beahcerot_split_long(const double *line, size_t line_len, double max, double *out, size_t out_len, uint64_t *count);
 
 uint64_t beahcerot_s_stitch(const double *line, size_t line_len, double *out, size_t out_len, uint64_t *count);
