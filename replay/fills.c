@@ -65,6 +65,17 @@ static void fill_job(const struct call *c) {
     same_bytes(c);
 }
 
+/* A job of two fills. Lent are the outline's corners and ends, the table's two slices, and then each fill's four. */
+static void fill_job2(const struct call *c) {
+    uint64_t said[5] = {MARK, MARK, MARK, MARK, MARK};
+    say_word(CALL(beahcerot_fill_job2, BYTES(c), LENT(c, 0), LENT(c, 1), LENT(c, 2), LENT(c, 3), LENT(c, 4), LENT(c, 5),
+                  LENT(c, 6), LENT(c, 7), LENT(c, 8), LENT(c, 9), LENT(c, 10), LENT(c, 11), said, said + 1, said + 2,
+                  said + 3, said + 4));
+    for (size_t i = 0; i < 5; i++) say_word(said[i]);
+    say_lent(c, 12);
+    same_bytes(c);
+}
+
 const struct entry fills[] = {
     {0x50, 2, 4, tatami},
     {0x51, 2, 5, row_list},
@@ -73,5 +84,6 @@ const struct entry fills[] = {
     {0x54, 2, 5, plain_row_list},
     {0x55, 3, 10, tatami_twice},
     {0x80, 1, 6, fill_job},
+    {0x81, 1, 12, fill_job2},
     {0, 0, 0, NULL},
 };

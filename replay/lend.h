@@ -5,7 +5,7 @@
 #include "read.h"
 
 /* How many slices there are, how many words (or bytes) each can have, and how many stand around it on either side. */
-#define SLICES 10
+#define SLICES 12
 #define ROOM 256
 #define MARGIN 4
 

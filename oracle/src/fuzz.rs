@@ -18,7 +18,7 @@ mod rng;
 
 use filled::filled;
 use inputs::{boundaries::boundaries, fills};
-use job::{job, relength};
+use job::{job, job2, relength};
 use program::{check, compare, program};
 use rng::Rng;
 use std::io::Read;
@@ -31,8 +31,10 @@ fn seeds(folder: &Path) -> std::io::Result<()> {
     let mut rng = Rng::new(1, "fuzz");
     let generated = std::iter::from_fn(|| Some(fills::any(&mut rng))).take(400);
     let jobs = boundaries().iter().cloned().chain(generated);
+    let mut own = Rng::new(2, "fuzz");
     let short = jobs
-        .filter_map(|f| job(&f))
+        .flat_map(|f| [job(&f), job2(&f, &fills::beneath(&mut own, &f))])
+        .flatten()
         .filter(|bytes| bytes.len() <= LONGEST);
     for (n, bytes) in short.enumerate() {
         std::fs::write(folder.join(format!("{n:04}.job")), bytes)?;

@@ -244,8 +244,8 @@ pub mod stroke {
 /// The fill.
 pub mod fill {
     use super::raw::{
-        beahcerot_fill_job, beahcerot_plain_row_list, beahcerot_plain_tatami, beahcerot_row_list,
-        beahcerot_tatami, beahcerot_tatami_twice,
+        beahcerot_fill_job, beahcerot_fill_job2, beahcerot_plain_row_list, beahcerot_plain_tatami,
+        beahcerot_row_list, beahcerot_tatami, beahcerot_tatami_twice,
     };
     use crate::inputs::fills::Fill;
 
@@ -422,6 +422,49 @@ pub mod fill {
                 out.count,
             )
         }
+    }
+
+    /// A version 2 job by its bytes, as `tatami_twice`.
+    pub fn fill_job2(bytes: &[u8], table: Work, work: [Work; 2], out: [Sewn; 2]) -> [u64; 2] {
+        let (mut corners, mut ends) = ([0.0; 2048], [0usize; 255]);
+        let ([a, b], [x, y]) = (work, out);
+        let mut answer = 0;
+        let first = unsafe {
+            beahcerot_fill_job2(
+                bytes.as_ptr(),
+                bytes.len(),
+                corners.as_mut_ptr(),
+                corners.len(),
+                ends.as_mut_ptr(),
+                ends.len(),
+                table.floats.as_mut_ptr(),
+                table.floats.len(),
+                table.wholes.as_mut_ptr().cast(),
+                table.wholes.len(),
+                a.floats.as_mut_ptr(),
+                a.floats.len(),
+                a.wholes.as_mut_ptr().cast(),
+                a.wholes.len(),
+                x.points.as_mut_ptr(),
+                x.points.len(),
+                x.section_ends.as_mut_ptr().cast(),
+                x.section_ends.len(),
+                b.floats.as_mut_ptr(),
+                b.floats.len(),
+                b.wholes.as_mut_ptr().cast(),
+                b.wholes.len(),
+                y.points.as_mut_ptr(),
+                y.points.len(),
+                y.section_ends.as_mut_ptr().cast(),
+                y.section_ends.len(),
+                x.sections,
+                x.count,
+                &mut answer,
+                y.sections,
+                y.count,
+            )
+        };
+        [first, answer]
     }
 
     pub fn row_list(f: &Fill, work: Work, out: Listed) -> u64 {

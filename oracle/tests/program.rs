@@ -22,7 +22,7 @@ mod rng;
 use inputs::boundaries::boundaries;
 use inputs::fills::{self, Fill};
 use inputs::outlines::{Outline, block};
-use job::{LAYOUT, LENT, job, relength, wanted_of};
+use job::{LAYOUT, LENT, job, job2, relength, wanted_of};
 use program::{check, end, program, run, run_in_pieces, start};
 use rng::Rng;
 use std::fs::File;
@@ -46,9 +46,24 @@ const RINGS: usize = 7;
 const STAGGER: usize = 8;
 const FLOATS: usize = 12;
 const HEAD: usize = 60;
+/// Of a version 2 job, the second fill's.
+const BOTTOM_UP2: usize = 60;
 
 fn k1() -> Vec<u8> {
     job(&Fill::k1()).unwrap()
+}
+
+/// Document 01's K2, K1 bottom up.
+fn k2() -> Fill {
+    Fill {
+        bottom_up: true,
+        ..Fill::k1()
+    }
+}
+
+/// K1, and K2 over the same square.
+fn k1_and_k2() -> Vec<u8> {
+    job2(&Fill::k1(), &k2()).unwrap()
 }
 
 /// A job of two rings, the second of three corners.
@@ -66,6 +81,58 @@ fn k1_is_printed_as_document_01_has_it() {
     assert_eq!(std::fs::read(example).unwrap(), bytes);
     let Some(program) = program() else { return };
     assert_eq!(run(&program, &bytes), K1);
+}
+
+#[test]
+fn a_version_2_job_prints_two_listings() {
+    let bytes = k1_and_k2();
+    let both = K1.to_string() + &wanted_of(&job(&k2()).unwrap());
+    assert_eq!(wanted_of(&bytes), both);
+    let Some(program) = program() else { return };
+    assert_eq!(run(&program, &bytes), both);
+    // Its version makes two of a badly framed one too; cut before it, there is one.
+    assert_eq!(run(&program, &bytes[..5]), LAYOUT.repeat(2));
+    assert_eq!(run(&program, &bytes[..4]), LAYOUT);
+}
+
+/// Runs a version 2 job and compares; gives both answers.
+fn check2(program: &std::path::Path, bytes: &[u8]) -> [usize; 2] {
+    check(program, bytes);
+    let text = wanted_of(bytes);
+    let mut lines = text.lines();
+    [(); 2].map(|()| {
+        let head = lines.next().expect("a head line");
+        let said: Vec<usize> = head.split(' ').map(|n| n.parse().unwrap()).collect();
+        for _ in 0..said[2] {
+            lines.next().expect("a point's line");
+        }
+        said[0]
+    })
+}
+
+/// Every refusal of the table, and of each fill with the other sewn or refused.
+#[test]
+fn each_boundary_of_each_refusal_of_two_fills() {
+    let Some(program) = program() else { return };
+    let mut met = [[0; 8]; 2];
+    for fill in boundaries() {
+        let own = Fill {
+            outline: fill.outline.clone(),
+            rule: fill.rule,
+            cosine: fill.cosine,
+            sine: fill.sine,
+            ..Fill::k1()
+        };
+        for pair in [[fill, &own], [&own, fill]] {
+            if let Some(bytes) = job2(pair[0], pair[1]) {
+                let [a, b] = check2(&program, &bytes);
+                met[0][a] += 1;
+                met[1][b] += 1;
+            }
+        }
+    }
+    let all = met.iter().flatten().all(|&n| n > 0);
+    assert!(all, "answers met: {met:?}");
 }
 
 #[test]
@@ -174,10 +241,40 @@ fn each_end_of_what_is_lent() {
     }
 }
 
+/// The same of each fill of a version 2 job: 6I whole numbers are its own.
+#[test]
+fn each_end_of_what_each_fill_is_lent() {
+    let Some(program) = program() else { return };
+    let cases = [
+        (rows(1365), 0),
+        (rows(1366), 6),
+        (points(4096), 0),
+        (points(4097), 7),
+        (sections(512), 0),
+        (sections(513), 7),
+        (rows(4097), 5),
+    ];
+    for (fill, answer) in cases {
+        // As wide apart as it goes, so that the other is sewn.
+        let wide = Fill {
+            spacing: 1000.0,
+            len: 1000.0,
+            ..fill.clone()
+        };
+        let bytes = job2(&fill, &wide).unwrap();
+        assert_eq!(check2(&program, &bytes), [answer, 0]);
+        let bytes = job2(&wide, &fill).unwrap();
+        assert_eq!(check2(&program, &bytes), [0, answer]);
+    }
+    // 6E floats of the table: 1,024 sides are not too many.
+    let many = many_sides(512.0);
+    assert_eq!(check2(&program, &job2(&many, &many).unwrap()), [0, 0]);
+}
+
 #[test]
 fn a_cut_or_longer_job_is_badly_framed() {
     let Some(program) = program() else { return };
-    for whole in [k1(), two_rings()] {
+    for whole in [k1(), two_rings(), k1_and_k2()] {
         for length in 0..whole.len() {
             let cut = whole[..length].to_vec();
             assert_eq!(check(&program, &cut), 1, "cut to {length} bytes");
@@ -205,6 +302,24 @@ fn each_byte_of_the_head() {
                 RULE | BOTTOM_UP => byte <= 1,
                 VERSION | RINGS => byte == 1,
                 _ => byte == k1()[at],
+            };
+            let answer = check(&program, &bytes);
+            assert_eq!(answer == 1, !right, "byte {at} is {byte}");
+        }
+    }
+}
+
+#[test]
+fn each_byte_of_a_version_2_head() {
+    let Some(program) = program() else { return };
+    for at in [VERSION, RULE, BOTTOM_UP, RINGS, BOTTOM_UP2] {
+        for byte in 0..=255 {
+            let mut bytes = k1_and_k2();
+            bytes[at] = byte;
+            let right = match at {
+                VERSION => byte == 2,
+                RINGS => byte == 1,
+                _ => byte <= 1,
             };
             let answer = check(&program, &bytes);
             assert_eq!(answer == 1, !right, "byte {at} is {byte}");
@@ -241,18 +356,24 @@ fn settings_by_their_bits() {
 fn large_jobs() {
     let Some(program) = program() else { return };
     let plain = Fill::new(&[]);
-    let head = job(&plain).unwrap();
-    assert_eq!(check(&program, &head), 0);
+    for head in [job(&plain).unwrap(), job2(&plain, &plain).unwrap()] {
+        large_jobs_of(&program, head);
+    }
+}
+
+fn large_jobs_of(program: &std::path::Path, head: Vec<u8>) {
+    let check = |bytes: &[u8]| check(program, bytes);
+    assert_eq!(check(&head), 0);
     // A ring that says it has 65,535 corners, with none, and with all of them.
     let mut bytes = head.clone();
     bytes[RINGS] = 1;
     bytes.extend([255, 255]);
-    assert_eq!(check(&program, &relength(bytes.clone())), 1);
+    assert_eq!(check(&relength(bytes.clone())), 1);
     bytes.extend(vec![0; 16 * 65_535]);
-    assert_eq!(check(&program, &relength(bytes.clone())), 1);
+    assert_eq!(check(&relength(bytes.clone())), 1);
     bytes.extend(vec![0; 1 << 20]);
-    assert_eq!(check(&program, &relength(bytes.clone())), 1);
-    assert_eq!(check(&program, &bytes), 1);
+    assert_eq!(check(&relength(bytes.clone())), 1);
+    assert_eq!(check(&bytes), 1);
     // 255 rings of none, of one corner, and 1,024 corners and one more in them.
     for (each, last, answer) in [(0, 0, 0), (1, 1, 0), (4, 8, 0), (4, 9, 1)] {
         let mut bytes = head.clone();
@@ -270,15 +391,16 @@ fn large_jobs() {
                 }
             }
         }
-        assert_eq!(check(&program, &relength(bytes)), answer, "rings of {each}");
+        assert_eq!(check(&relength(bytes)), answer, "rings of {each}");
     }
 }
 
 #[test]
 fn a_job_may_come_in_pieces() {
     let Some(program) = program() else { return };
-    for bytes in [k1(), two_rings()] {
+    for bytes in [k1(), two_rings(), k1_and_k2()] {
         let wanted = wanted_of(&bytes);
+        let layout = LAYOUT.repeat(bytes[VERSION].into());
         let short = Duration::from_millis(1);
         assert_eq!(run_in_pieces(&program, bytes.chunks(1), short), wanted);
         for size in [3, 5, HEAD, 64, 100] {
@@ -287,9 +409,9 @@ fn a_job_may_come_in_pieces() {
         }
         // Cut in pieces and too short, or too long.
         let cut = &bytes[..bytes.len() - 1];
-        assert_eq!(run_in_pieces(&program, cut.chunks(7), short), LAYOUT);
+        assert_eq!(run_in_pieces(&program, cut.chunks(7), short), layout);
         let longer = [&bytes[..], &[0]].concat();
-        assert_eq!(run_in_pieces(&program, longer.chunks(7), short), LAYOUT);
+        assert_eq!(run_in_pieces(&program, longer.chunks(7), short), layout);
     }
     let large = job(&many_sides(300.0)).unwrap();
     let pause = Duration::from_millis(5);
@@ -347,8 +469,17 @@ fn random_bytes() {
 }
 
 fn generated(rng: &mut Rng, n: usize) -> Vec<Vec<u8>> {
-    let fills = std::iter::from_fn(|| Some(fills::any(rng)));
-    fills.filter_map(|f| job(&f)).take(n).collect()
+    // One in three of two fills.
+    let jobs = std::iter::from_fn(|| {
+        let f = fills::any(rng);
+        let two = rng.one_in(3);
+        Some(if two {
+            job2(&f, &fills::beneath(rng, &f))
+        } else {
+            job(&f)
+        })
+    });
+    jobs.flatten().take(n).collect()
 }
 
 #[test]

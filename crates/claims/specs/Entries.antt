@@ -48,6 +48,7 @@ use Rattle.exports_other.proofs.pattern.beahcerot_cross_stitch
 use Rattle.exports_other.proofs.pattern.beahcerot_meander
 use Rattle.exports_fill.proofs.fill.beahcerot_tatami
 use Rattle.exports_fill.proofs.beneath.beahcerot_tatami_twice
+use Rattle.exports_fill.proofs.beneath.beahcerot_fill_job2
 use Rattle.exports_fill.proofs.fill.beahcerot_row_list
 use Rattle.exports_fill.proofs.bench.beahcerot_plain_tatami
 use Rattle.exports_fill.proofs.bench.beahcerot_plain_row_list
@@ -229,6 +230,11 @@ fill-room-entry κs a x y h k = both (one (h .0) (k .0)) (λ i. (tt, (tt, (tt, (
 
 pub fill-job-entry : One beahcerot_fill_job.ended beahcerot_fill_job.Reads.Learnt
 fill-job-entry κs a x y h k = let s = one (h .0) (k .0) in λ i. (s i .said .answer, (tt, (one (h .1 .0) (k .1 .0) i, (one (h .1 .1) (k .1 .1) i, (s i .floats, (s i .wholes, (s i .points, (s i .ends, (s i .said .sections, (s i .said .points, tt))))))))))
+
+pub fill-job2-entry : One beahcerot_fill_job2.ended beahcerot_fill_job2.Reads.Learnt
+fill-job2-entry κs a x y h k =
+    let s = one (h .0) (k .0) in
+    λ i. (s i .first .said .answer, (tt, (one (h .1 .0) (k .1 .0) i, (one (h .1 .1) (k .1 .1) i, (s i .table, (s i .places, (s i .first .floats, (s i .first .wholes, (s i .first .points, (s i .first .ends, (s i .second .floats, (s i .second .wholes, (s i .second .points, (s i .second .ends, (s i .first .said .sections, (s i .first .said .points, (s i .second .said .answer, (s i .second .said .sections, (s i .second .said .points, tt)))))))))))))))))))
 
 -- ---- for the machine
 

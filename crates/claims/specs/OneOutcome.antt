@@ -22,7 +22,9 @@ use Rattle.patterns.specs.SaidLaws.{box-one}
 use Rattle.tatami.specs.declared.Filled.{Filled}
 use Rattle.tatami.specs.Left.{Left, left}
 use Rattle.jobs.specs.declared.job.Parsed.{Parsed}
+use Rattle.jobs.specs.declared.job2.Parsed2.{Parsed2}
 use Rattle.jobs.specs.Job.{corners as Job·corners, ends as Job·ends, left as Job·left}
+use Rattle.jobs.specs.Job2.{corners2, ends2, left2}
 use Rattle.desk.specs.Listing.{printed}
 use Rattle.leaves.proofs.checked.root
 use Rattle.leaves.proofs.checked.floor
@@ -66,7 +68,9 @@ use Rattle.plain.proofs.row_list as plain_row_list
 use Rattle.layers.proofs.tatami_twice
 use Rattle.fillroom.proofs.fill_room
 use Rattle.jobs.proofs.job.parse
+use Rattle.jobs.proofs.job2.parse2
 use Rattle.desk.proofs.fill_job
+use Rattle.desk.proofs.two.fill_job2
 use Rattle.dst.proofs.dst
 use Rattle.dst_read.proofs.dst_read
 use Rattle.salvage.proofs.salvage
@@ -275,6 +279,19 @@ parse-outcome κs a x y h k =
 
 pub fill-job-outcome : One fill_job.ended fill_job.Reads.Learnt
 fill-job-outcome κs a x y h k = let s = left-parts (one (h .0) (k .0)) in both (s .0) (λ i. (tt, (one (h .1 .0) (k .1 .0) i, (one (h .1 .1) (k .1 .1) i, (s .1 i, (s .2 i, (s .3 i, (s .4 i, tt))))))))
+
+pub parse2-outcome : One parse2.ended parse2.Reads.Learnt
+parse2-outcome κs a x y h k =
+    let s = one (h .0) (k .0) in
+    let bytes = a .0 .now in
+    let c = h .1 .0 ∙ ap (λ (r : Parsed2). left2 r (corners2 bytes) (a .1 .0 .now)) s ∙ sym (k .1 .0) in
+    let e = h .1 .1 ∙ ap (λ (r : Parsed2). left2 r (ends2 bytes) (a .1 .1 .0 .now)) s ∙ sym (k .1 .1) in
+    both s (λ i. (tt, (c i, (e i, tt))))
+
+pub fill-job2-outcome : One fill_job2.ended fill_job2.Reads.Learnt
+fill-job2-outcome κs a x y h k =
+    let s = one (h .0) (k .0) in
+    λ i. (record { first = s i .first .said; second = s i .second .said }, (tt, (one (h .1 .0) (k .1 .0) i, (one (h .1 .1) (k .1 .1) i, (s i .table, (s i .places, (s i .first .points, (s i .first .ends, (s i .first .floats, (s i .first .wholes, (s i .second .points, (s i .second .ends, (s i .second .floats, (s i .second .wholes, tt))))))))))))))
 
 -- ---- all that the program prints. `fill::answer` is a program's, which no other crate can name: its contract's words are written once more, and only reading holds them to the source
 

@@ -8,18 +8,19 @@ use lib.Ieee.{Float}
 use Rattle.jobs.specs.declared.job.Job.{Job}
 use Rattle.jobs.specs.declared.job.Parsed.{Parsed}
 use Rattle.jobs.specs.declared.job.Parsed.the-variants.{Done, Refused}
-use Rattle.jobs.specs.Job.{corners, ends, parsed, left as Job·left}
+use Rattle.jobs.specs.Job.{goodHead, corners, ends, decoded, parsed, left as Job·left}
 use Rattle.jobs.specs.Theorems.{Accepted, accepted}
 use Rattle.tatami.specs.Left.{Left, left, tatamiLeft}
 use Rattle.desk.specs.Desk.{leftOf, jobLeft}
 
 -- a list put to the front of a slice is read back from there
-front-back : {A : Type 0} (l d x : List A) (n : ℕ) → length l ≡ n → x ≡ l ++ drop (length l) d → take n x ≡ l
+pub front-back : {A : Type 0} (l d x : List A) (n : ℕ) → length l ≡ n → x ≡ l ++ drop (length l) d → take n x ≡ l
 front-back l d x n e h = ap (take n) h ∙ take-at l (drop (length l) d) n e
 
 module _ (s : List ℕ) (f e : ℕ) (r : Parsed) (is : r ≡ parsed s f e) where
-  pub job-accepted : (j : Job) → r ≡ Done j → Accepted s f e j
-  job-accepted j h = accepted s f e j (sym is ∙ h)
+  pub job-accepted : (j : Job) → r ≡ Done j → Accepted s (drop 60 s) f e j
+  unfolding parsed decoded
+  job-accepted j h = accepted s (drop 60 s) (goodHead 1 s) f e j (sym is ∙ h)
 
   -- what `parse` left in a slice, said by what the job decodes to
   pub outline-left : {A : Type 0} (l d : List A) {x : List A} → x ≡ Job·left r l d → x ≡ Job·left (parsed s f e) l d
@@ -34,7 +35,7 @@ module _ (s : List ℕ) (f e : ℕ) (r : Parsed) (is : r ≡ parsed s f e) where
     pub left-done : (j : Job) → r ≡ Done j → (c cs : List Float) (d es : List ℕ) → cs ≡ Job·left r (corners s) c → es ≡ Job·left r (ends s) d
         → (x : Left) → x ≡ tatamiLeft (take (2 * j .corners) cs) (take (j .rings) es) (j .rule) (j .settings) (j .stagger) (j .«bottom_up») points stops floats wholes
         → x ≡ jobLeft s f e points stops floats wholes
-    unfolding jobLeft
+    unfolding jobLeft corners ends
     left-done j h c cs d es p q x t =
         let a = job-accepted j h in
         let u = front-back (corners s) c cs (2 * j .corners) (a .numbers) (p ∙ ap (λ z. Job·left z (corners s) c) h) in

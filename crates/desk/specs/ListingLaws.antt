@@ -21,7 +21,12 @@ use Rattle.jobs.specs.Job.{goodHead, decoded, parsed}
 use Rattle.jobs.specs.Text.{listing, Ends}
 use Rattle.tatami.specs.declared.Filled.{Filled}
 use Rattle.tatami.specs.Left.{Left, left, leftBy, tatamiLeft}
+use Rattle.layers.specs.Layers.{Slices, layerLeft, twiceLeft}
+use Rattle.jobs.specs.declared.job2.Parsed2.{Parsed2}
+use Rattle.jobs.specs.declared.job2.Parsed2.the-variants.{Done as Done2, Refused as Refused2}
+use Rattle.jobs.specs.Job2.{parsed2}
 use Rattle.desk.specs.Desk.{leftOf, jobLeft}
+use Rattle.desk.specs.Desk2.{leftOf2, job2Left}
 use Rattle.desk.specs.Listing.{listingOf, lentLeft, Told}
 
 -- the ends of sections don't fall, and are places of their points
@@ -59,6 +64,17 @@ module _ (points floats : List Float) (stops wholes : List ℕ) where
   pub job-told : (s : List ℕ) (f e : ℕ) → Told (jobLeft s f e points stops floats wholes)
   unfolding jobLeft
   job-told s f e = of-told s (parsed s f e)
+
+-- both fills of a version 2 job
+module _ (a b : Slices) (table : List Float) (places : List ℕ) where
+  of-told2 : (s : List ℕ) (r : Parsed2) → Told (leftOf2 s r a b table places .first) × Told (leftOf2 s r a b table places .second)
+  unfolding twiceLeft layerLeft
+  of-told2 s (Done2 j k) = (by-told (a .points) (a .floats) (a .stops) (a .wholes) _ _, by-told (b .points) (b .floats) (b .stops) (b .wholes) _ _)
+  of-told2 s (Refused2 n) = (record { sections = zero-le; ends = tt }, record { sections = zero-le; ends = tt })
+
+  pub job2-told : (s : List ℕ) (f e : ℕ) → Told (job2Left s f e a b table places .first) × Told (job2Left s f e a b table places .second)
+  unfolding job2Left
+  job2-told s f e = of-told2 s (parsed2 s f e)
 
 -- of what the code has in hand
 module _ (l : Left) {r : Filled} {points : List Float} {stops : List ℕ} (a : r ≡ l .said) (b : points ≡ l .points) (c : stops ≡ l .ends) where

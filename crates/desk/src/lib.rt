@@ -1,9 +1,12 @@
-// A job filled: from its bytes to the points of its sections, with every refusal on the way.
+// A job filled: from its bytes to the points of its sections, with every refusal on the way; a version 2 job (request [6]) to those of both fills.
 ghost use mathlib.Core.Path.{_≡_};
 ghost use lib.ListN.{length};
 ghost use Rattle.jobs.specs.Job.{parsed, corners as Job·corners, ends as Job·ends, left as Job·left};
 ghost use Rattle.tatami.specs.Left.{left};
 ghost use Rattle.desk.specs.Desk.{jobLeft};
+
+pub mod two;
+
 use jobs::Parsed;
 use jobs::parse;
 use tatami::Filled;

@@ -1,9 +1,13 @@
 // Two fills over one edge table: the call answers the first fill's number and stores the second's, and for each how many sections and points it wrote, none after a refusal.
 ghost use mathlib.Core.Path.{_≡_};
+ghost use lib.ListN.{length};
+ghost use Rattle.jobs.specs.Job2.{corners2, ends2, parsed2, left2};
 ghost use Rattle.tatami.specs.Left.{left};
 ghost use Rattle.layers.specs.Layers.{slices, twice, twiceLeft};
+ghost use Rattle.desk.specs.Desk2.{job2Left};
 ghost use Rattle.exports.specs.Stored.{ruleOf};
 ghost use Rattle.exports_fill.specs.Fills.{filled, layer};
+use desk::two::fill_job2;
 use exports::shape::rule_of;
 use layers::Layer;
 use layers::tatami_twice;
@@ -83,6 +87,57 @@ pub extern "C" fn beahcerot_tatami_twice(
     );
     let a = r.first;
     let b = r.second;
+    *sections = a.sections;
+    *count = a.points;
+    *answer2 = b.answer;
+    *sections2 = b.sections;
+    *count2 = b.points;
+    a.answer
+}
+
+// A version 2 job by its bytes; its outline goes to the front of `corners` and `ends`.
+#[no_mangle]
+pub extern "C" fn beahcerot_fill_job2(
+    bytes: &[u8],
+    corners: &mut [f64],
+    ends: &mut [usize],
+    table: &mut [f64],
+    places: &mut [usize],
+    floats: &mut [f64],
+    wholes: &mut [usize],
+    points: &mut [f64],
+    stops: &mut [usize],
+    floats2: &mut [f64],
+    wholes2: &mut [usize],
+    points2: &mut [f64],
+    stops2: &mut [usize],
+    sections: &mut u64,
+    count: &mut u64,
+    answer2: &mut u64,
+    sections2: &mut u64,
+    count2: &mut u64,
+) -> u64
+    ensures { λ r. ⌜ twice (left (filled r (now (sections .exit)) (now (count .exit))) (now (points .exit)) (now (stops .exit)) (now (floats .exit)) (now (wholes .exit))) (left (filled (now (answer2 .exit)) (now (sections2 .exit)) (now (count2 .exit))) (now (points2 .exit)) (now (stops2 .exit)) (now (floats2 .exit)) (now (wholes2 .exit))) (now (table .exit)) (now (places .exit)) ≡ job2Left (now (bytes .entry)) (length (now (corners .entry))) (length (now (ends .entry))) (slices (now (points .entry)) (now (stops .entry)) (now (floats .entry)) (now (wholes .entry))) (slices (now (points2 .entry)) (now (stops2 .entry)) (now (floats2 .entry)) (now (wholes2 .entry))) (now (table .entry)) (now (places .entry)) ⌝ }
+    ensures { λ _. ⌜ now (corners .exit) ≡ left2 (parsed2 (now (bytes .entry)) (length (now (corners .entry))) (length (now (ends .entry)))) (corners2 (now (bytes .entry))) (now (corners .entry)) ⌝ }
+    ensures { λ _. ⌜ now (ends .exit) ≡ left2 (parsed2 (now (bytes .entry)) (length (now (corners .entry))) (length (now (ends .entry)))) (ends2 (now (bytes .entry))) (now (ends .entry)) ⌝ }
+{
+    let both = fill_job2(
+        bytes,
+        corners,
+        ends,
+        table,
+        places,
+        points,
+        stops,
+        floats,
+        wholes,
+        points2,
+        stops2,
+        floats2,
+        wholes2,
+    );
+    let a = both.first;
+    let b = both.second;
     *sections = a.sections;
     *count = a.points;
     *answer2 = b.answer;

@@ -49,12 +49,13 @@ module _ (l : List Float) (stops : List ℕ) (n at : ℕ) (d₀ : List ℕ) (roo
   -- up to section s, which starts at point `from`
   pub record Sections (d : List ℕ) (k from s : ℕ) : Type 0 where
     pub high : s ≤ n
-    pub most : k + 55 * (length l / 2 - from) ≤ length d₀
+    pub most : k + 55 * (length l / 2 - from) ≤ at + 55 * (length l / 2)
+    pub fits : at + 55 * (length l / 2) ≤ length d₀
     pub ends : Ends l from (drop s (take n stops))
     pub front : Front d₀ d k (sectionLines l s from (drop s (take n stops))) (take at d₀ ++ sectionLines l 0 0 (take n stops))
 
   pub sections-start : Ends l 0 (take n stops) → at + 55 * (length l / 2) ≤ length d₀ → Sections d₀ at 0 0
-  sections-start h g = record { high = omega arith; most = omega arith; ends = h; front = front-from d₀ (sectionLines l 0 0 (take n stops)) at (omega arith) }
+  sections-start h g = record { high = omega arith; most = omega arith; fits = g; ends = h; front = front-from d₀ (sectionLines l 0 0 (take n stops)) at (omega arith) }
 
   module _ {d : List ℕ} {k from s : ℕ} (p : Sections d k from s) where
     pub sections-at : s < n → (from ≤ getD stops s 0) × (2 * getD stops s 0 ≤ length l) × Ends l (getD stops s 0) (drop (s + 1) (take n stops))
@@ -68,20 +69,23 @@ module _ (l : List Float) (stops : List ℕ) (n at : ℕ) (d₀ : List ℕ) (roo
         record {
           high = omega arith;
           most = omega (arith, p .most, a .0, a .1);
+          fits = p .fits;
           ends = a .2;
-          front = line-on (pointLines l s from (to - from)) (sectionLines l (s + 1) to (drop (s + 1) (take n stops))) d′ (front-at (ap (sectionLines l s from) (part-next stops n s 0 h room)) (p .front)) (omega (arith, p .most, a .0, a .1)) x e;
+          front = line-on (pointLines l s from (to - from)) (sectionLines l (s + 1) to (drop (s + 1) (take n stops))) d′ (front-at (ap (sectionLines l s from) (part-next stops n s 0 h room)) (p .front)) (omega (arith, p .most, p .fits, a .0, a .1)) x e;
         }
 
-    pub sections-end : n ≤ s → at ≤ length d₀ → Put d₀ d at (sectionLines l 0 0 (take n stops)) × (k ≡ at + length (sectionLines l 0 0 (take n stops)))
+    pub sections-end : n ≤ s → at ≤ length d₀ → Put d₀ d at (sectionLines l 0 0 (take n stops)) × ((k ≡ at + length (sectionLines l 0 0 (take n stops))) × (k ≤ at + 55 * (length l / 2)))
     unfolding sectionLines
-    sections-end h g = put-end (sectionLines l 0 0 (take n stops)) at g (front-at (ap (sectionLines l s from) (part-none stops n s h room)) (p .front))
+    sections-end h g =
+        let e = put-end (sectionLines l 0 0 (take n stops)) at g (front-at (ap (sectionLines l s from) (part-none stops n s h room)) (p .front)) in
+        (e .0, (e .1, omega (arith, p .most)))
 
 -- the head line, and the lines behind it
-pub listed : (answer n many : ℕ) (l : List Float) (stops d d₁ d′ : List ℕ) {k r : ℕ} → k ≤ length d → Put d d₁ 0 (headLine answer n many) → k ≡ 0 + length (headLine answer n many) → Put d₁ d′ k (sectionLines l 0 0 (take n stops)) → r ≡ k + length (sectionLines l 0 0 (take n stops))
-    → (d′ ≡ listing answer n many l stops ++ drop r d) × (r ≡ length (listing answer n many l stops))
+pub listed : (answer n many : ℕ) (l : List Float) (stops d d₁ d′ : List ℕ) {k r : ℕ} → k ≤ length d → Put d d₁ 0 (headLine answer n many) → k ≡ 0 + length (headLine answer n many) → Put d₁ d′ k (sectionLines l 0 0 (take n stops)) → (r ≡ k + length (sectionLines l 0 0 (take n stops))) × (r ≤ k + 55 * (length l / 2)) → k ≤ 63
+    → (d′ ≡ listing answer n many l stops ++ drop r d) × ((r ≡ length (listing answer n many l stops)) × (r ≤ 63 + 55 * (length l / 2)))
 unfolding listing
-listed answer n many l stops d d₁ d′ {k} {r} h p e q f =
+listed answer n many l stops d d₁ d′ {k} {r} h p e q f m =
     let a = headLine answer n many in
     let b = sectionLines l 0 0 (take n stops) in
-    let c : r ≡ length (a ++ b) = omega (arith, length-append a b) in
-    (rw c (put-then d d₁ d′ a b 0 k (omega arith) p e q), c)
+    let c : r ≡ length (a ++ b) = omega (arith, length-append a b, f .0) in
+    (rw c (put-then d d₁ d′ a b 0 k (omega arith) p e q), (c, omega (arith, f .1)))

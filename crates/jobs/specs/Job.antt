@@ -46,16 +46,16 @@ abbrev pub head : ℕ
 head = 60
 
 -- a wrong length, version or byte is LAYOUT
-unfoldable pub goodHead : List ℕ → Bool
-goodHead s = leb head (length s) && (eqb (number 0 4 s) (length s - 4) && (eqb (byte 4 s) 1 && (leb (byte 5 s) 1 && leb (byte 6 s) 1)))
+unfoldable pub goodHead : ℕ → List ℕ → Bool
+goodHead version s = leb head (length s) && (eqb (number 0 4 s) (length s - 4) && (eqb (byte 4 s) version && (leb (byte 5 s) 1 && leb (byte 6 s) 1)))
 
 -- 0 NonZero, 1 EvenOdd
 unfoldable pub ruleOf : ℕ → FillRule
 ruleOf b = cond (eqb b 0) NonZero EvenOdd
 
--- c, s, spacing, len, inset, pull
-unfoldable pub settingsOf : List ℕ → Settings
-settingsOf s = record { cosine = float 12 s; sine = float 20 s; spacing = float 28 s; len = float 36 s; inset = float 44 s; pull = float 52 s }
+-- c, s; spacing, len, inset and pull at a place, which is 28 in a version 1 job
+unfoldable pub settingsOf : ℕ → List ℕ → Settings
+settingsOf at s = record { cosine = float 12 s; sine = float 20 s; spacing = float at s; len = float (at + 8) s; inset = float (at + 16) s; pull = float (at + 24) s }
 
 -- ---- the rings, each a 16-bit corner count and its corners, x before y
 
@@ -85,7 +85,7 @@ cornersFrom (suc k) s = floats (2 * count s) (drop 2 s) ++ cornersFrom k (behind
 -- ---- the job
 
 unfoldable pub jobOf : List ℕ → ℕ → Job
-jobOf s n = record { rule = ruleOf (byte 5 s); «bottom_up» = eqb (byte 6 s) 1; stagger = number 8 4 s; settings = settingsOf s; corners = n; rings = byte 7 s }
+jobOf s n = record { rule = ruleOf (byte 5 s); «bottom_up» = eqb (byte 6 s) 1; stagger = number 8 4 s; settings = settingsOf 28 s; corners = n; rings = byte 7 s }
 
 unfoldable pub corners : List ℕ → List Float
 corners s = cornersFrom (byte 7 s) (drop head s)
@@ -97,9 +97,13 @@ abbrev pub framedJob : List ℕ → Framing → Parsed
 framedJob s (Corners n) = Done (jobOf s n)
 framedJob s Badly = Refused LAYOUT
 
+-- by a head that is good or not, and the rings t
+abbrev pub decodedBy : Bool → List ℕ → List ℕ → Parsed
+decodedBy good s t = cond good (framedJob s (counted (byte 7 s) 0 t)) (Refused LAYOUT)
+
 -- a job, or LAYOUT
 unfoldable pub decoded : List ℕ → Parsed
-decoded s = cond (goodHead s) (framedJob s (counted (byte 7 s) 0 (drop head s))) (Refused LAYOUT)
+decoded s = decodedBy (goodHead 1 s) s (drop head s)
 
 -- ---- the call
 

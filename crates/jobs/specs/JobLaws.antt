@@ -16,7 +16,7 @@ use Rattle.seqs.specs.Reads.{fuel-more}
 use Rattle.seqs.specs.Tests.{either, and-both}
 use Rattle.jobs.specs.declared.frame.Framing.the-variants.{Corners, Badly}
 use Rattle.jobs.specs.declared.job.Parsed.the-variants.{Done, Refused}
-use Rattle.jobs.specs.Job.{value, number, float, floats, byte, goodHead, count, behind, counted, endsFrom, cornersFrom, jobOf, decoded, parsed}
+use Rattle.jobs.specs.Job.{value, number, float, floats, byte, goodHead, count, behind, counted, endsFrom, cornersFrom, jobOf, framedJob, roomed, decoded, parsed}
 
 -- ---- numbers
 
@@ -175,29 +175,33 @@ corners-length (suc k) n s m e =
 
 -- ---- the call
 
-pub head-long : (s : List ℕ) → goodHead s ≡ true → 60 ≤ length s
+pub head-long : (version : ℕ) (s : List ℕ) → goodHead version s ≡ true → 60 ≤ length s
 unfolding goodHead
-head-long s t = leb-true 60 (length s) (and-both (leb 60 (length s)) _ t .0)
+head-long version s t = leb-true 60 (length s) (and-both (leb 60 (length s)) _ t .0)
+
+-- of a good head, and the rings t
+module _ (s t : List ℕ) (floats ends : ℕ) where
+  pub framed-badly : counted (byte 7 s) 0 t ≡ Badly → Refused 1 ≡ roomed floats ends (framedJob s (counted (byte 7 s) 0 t))
+  framed-badly e = rw e
+
+  module _ (n : ℕ) (e : counted (byte 7 s) 0 t ≡ Corners n) where
+    pub framed-corners : floats < 2 * n → Refused 7 ≡ roomed floats ends (framedJob s (counted (byte 7 s) 0 t))
+    unfolding jobOf
+    framed-corners h = rw (e, lt-leb (2 * n) floats h)
+
+    pub framed-ends : 2 * n ≤ floats → ends < byte 7 s → Refused 7 ≡ roomed floats ends (framedJob s (counted (byte 7 s) 0 t))
+    unfolding jobOf
+    framed-ends h l = rw (e, le-leb (2 * n) floats h, lt-leb (byte 7 s) ends l)
+
+    pub framed-done : 2 * n ≤ floats → byte 7 s ≤ ends → Done (jobOf s n) ≡ roomed floats ends (framedJob s (counted (byte 7 s) 0 t))
+    unfolding jobOf
+    framed-done h l = rw (e, le-leb (2 * n) floats h, le-leb (byte 7 s) ends l)
 
 module _ (s : List ℕ) (floats ends : ℕ) where
-  pub parsed-head : goodHead s ≡ false → Refused 1 ≡ parsed s floats ends
+  pub parsed-head : goodHead 1 s ≡ false → Refused 1 ≡ parsed s floats ends
   unfolding parsed decoded
   parsed-head t = rw t
 
-  module _ (t : goodHead s ≡ true) where
-    pub parsed-badly : counted (byte 7 s) 0 (drop 60 s) ≡ Badly → Refused 1 ≡ parsed s floats ends
-    unfolding parsed decoded
-    parsed-badly e = rw (t, e)
-
-    module _ (n : ℕ) (e : counted (byte 7 s) 0 (drop 60 s) ≡ Corners n) where
-      pub parsed-corners : floats < 2 * n → Refused 7 ≡ parsed s floats ends
-      unfolding parsed decoded jobOf
-      parsed-corners h = rw (t, e, lt-leb (2 * n) floats h)
-
-      pub parsed-ends : 2 * n ≤ floats → ends < byte 7 s → Refused 7 ≡ parsed s floats ends
-      unfolding parsed decoded jobOf
-      parsed-ends h l = rw (t, e, le-leb (2 * n) floats h, lt-leb (byte 7 s) ends l)
-
-      pub parsed-done : 2 * n ≤ floats → byte 7 s ≤ ends → Done (jobOf s n) ≡ parsed s floats ends
-      unfolding parsed decoded jobOf
-      parsed-done h l = rw (t, e, le-leb (2 * n) floats h, le-leb (byte 7 s) ends l)
+  pub parsed-framed : goodHead 1 s ≡ true → roomed floats ends (framedJob s (counted (byte 7 s) 0 (drop 60 s))) ≡ parsed s floats ends
+  unfolding parsed decoded
+  parsed-framed t = rw t

@@ -1,6 +1,6 @@
 -- What an accepted job holds, and that the room of document 01's limits is enough; that `places` counts digits.
 use mathlib.Core.Path.{_≡_, refl, subst, _∙_}
-use mathlib.Core.Bool.{true, false}
+use mathlib.Core.Bool.{Bool, true, false}
 use mathlib.Core.Logic.{_⊎_, inl, inr}
 use mathlib.Core.List.{List}
 use Prim.Native.Nat.{ℕ, zero, suc, _+_, _-_, _*_, _/_, _%_, _^_, _≤_, _<_}
@@ -17,9 +17,9 @@ use Rattle.jobs.specs.declared.frame.Framing.{Framing}
 use Rattle.jobs.specs.declared.frame.Framing.the-variants.{Corners, Badly}
 use Rattle.jobs.specs.declared.job.Job.{Job}
 use Rattle.jobs.specs.declared.job.Parsed.the-variants.{Done, Refused}
-use Rattle.jobs.specs.Job.{byte, count, behind, goodHead, counted, endsFrom, cornersFrom, jobOf, corners, ends, decoded, parsed}
+use Rattle.jobs.specs.Job.{byte, count, behind, counted, endsFrom, cornersFrom, jobOf, framedJob, decodedBy, roomed}
 use Rattle.jobs.specs.Text.{places}
-use Rattle.jobs.specs.JobLaws.{ring, counted-last, counted-few, ends-turn, ends-none, ends-length, corners-length, parsed-head, parsed-badly, parsed-corners, parsed-ends, parsed-done}
+use Rattle.jobs.specs.JobLaws.{ring, counted-last, counted-few, ends-turn, ends-none, ends-length, corners-length, framed-badly, framed-corners, framed-ends, framed-done}
 
 -- ---- accepted jobs
 
@@ -32,74 +32,71 @@ rings-rise (suc k) n s m e =
     let o : suc k - 1 ≡ k = omega arith in
     rw (ends-turn (suc k) n s (omega arith), o, le-leb n (n + count s) (omega arith)) (rings-rise k (n + count s) (behind s) m (rw o at (r .rest)))
 
--- what the caller of `parse` knows of a job, where so many floats and ends were lent
-pub record Accepted (s : List ℕ) (floats rooms : ℕ) (j : Job) : Type 0 where
+-- what the caller of `parse` knows of a job with the rings t, where so many floats and ends were lent
+pub record Accepted (s t : List ℕ) (floats rooms : ℕ) (j : Job) : Type 0 where
   pub is : j ≡ jobOf s (j .corners)
-  pub numbers : length (corners s) ≡ 2 * j .corners
-  pub rings : length (ends s) ≡ j .rings
+  pub numbers : length (cornersFrom (byte 7 s) t) ≡ 2 * j .corners
+  pub rings : length (endsFrom (byte 7 s) 0 t) ≡ j .rings
   pub few : j .corners ≤ 1024
   pub numbersFit : 2 * j .corners ≤ floats
   pub ringsFit : j .rings ≤ rooms
-  pub layout : byte 7 s < 256 → goodOutline (corners s) (ends s) ≡ true
-
-framing : (r : Framing) → ((n : ℕ) × (r ≡ Corners n)) ⊎ (r ≡ Badly)
-framing (Corners n) = inl (n, refl)
-framing Badly = inr refl
+  pub layout : byte 7 s < 256 → goodOutline (cornersFrom (byte 7 s) t) (endsFrom (byte 7 s) 0 t) ≡ true
 
 refuses {ℓ} : {X : Type ℓ} {n : ℕ} {j : Job} → Refused n ≡ Done j → X
 refuses e = let z : _≡_ {A = ℕ} 0 1 = cc in absurd (omega arith)
 
-module _ (s : List ℕ) where
-  outline : (n : ℕ) → counted (byte 7 s) 0 (drop 60 s) ≡ Corners n → byte 7 s < 256 → goodOutline (corners s) (ends s) ≡ true
-  unfolding goodOutline corners ends
+module _ (s t : List ℕ) where
+  outline : (n : ℕ) → counted (byte 7 s) 0 t ≡ Corners n → byte 7 s < 256 → goodOutline (cornersFrom (byte 7 s) t) (endsFrom (byte 7 s) 0 t) ≡ true
+  unfolding goodOutline
   outline n e h =
-      let a : length (cornersFrom (byte 7 s) (drop 60 s)) ≡ 2 * n = omega (arith, corners-length (byte 7 s) 0 (drop 60 s) n e) in
-      let b = ends-length (byte 7 s) 0 (drop 60 s) in
-      let c : length (cornersFrom (byte 7 s) (drop 60 s)) % 2 ≡ 0 = omega arith in
-      let d : length (cornersFrom (byte 7 s) (drop 60 s)) / 2 ≡ n = omega arith in
-      let f = counted-few (byte 7 s) 0 (drop 60 s) n (omega arith) e in
-      rw (c, d, b, le-leb (byte 7 s) 255 (omega arith), le-leb n 1024 f) (rings-rise (byte 7 s) 0 (drop 60 s) n e)
+      let a : length (cornersFrom (byte 7 s) t) ≡ 2 * n = omega (arith, corners-length (byte 7 s) 0 t n e) in
+      let b = ends-length (byte 7 s) 0 t in
+      let c : length (cornersFrom (byte 7 s) t) % 2 ≡ 0 = omega arith in
+      let d : length (cornersFrom (byte 7 s) t) / 2 ≡ n = omega arith in
+      let f = counted-few (byte 7 s) 0 t n (omega arith) e in
+      rw (c, d, b, le-leb (byte 7 s) 255 (omega arith), le-leb n 1024 f) (rings-rise (byte 7 s) 0 t n e)
 
-  made : (f r n : ℕ) → counted (byte 7 s) 0 (drop 60 s) ≡ Corners n → 2 * n ≤ f → byte 7 s ≤ r → Accepted s f r (jobOf s n)
-  unfolding jobOf corners ends
+  made : (f r n : ℕ) → counted (byte 7 s) 0 t ≡ Corners n → 2 * n ≤ f → byte 7 s ≤ r → Accepted s t f r (jobOf s n)
+  unfolding jobOf
   made f r n e h l = record {
     is = refl;
-    numbers = omega (arith, corners-length (byte 7 s) 0 (drop 60 s) n e);
-    rings = ends-length (byte 7 s) 0 (drop 60 s);
-    few = counted-few (byte 7 s) 0 (drop 60 s) n (omega arith) e;
+    numbers = omega (arith, corners-length (byte 7 s) 0 t n e);
+    rings = ends-length (byte 7 s) 0 t;
+    few = counted-few (byte 7 s) 0 t n (omega arith) e;
     numbersFit = h;
     ringsFit = l;
     layout = outline n e;
   }
 
-  pub accepted : (f r : ℕ) (j : Job) → parsed s f r ≡ Done j → Accepted s f r j
-  accepted f r j p = go (either (goodHead s)) (framing (counted (byte 7 s) 0 (drop 60 s)))
+  -- of either version, by a head that is good or not
+  pub accepted : (good : Bool) (f r : ℕ) (j : Job) → roomed f r (decodedBy good s t) ≡ Done j → Accepted s t f r j
+  accepted good f r j = go good (counted (byte 7 s) 0 t) refl
     where
-      fits : (n : ℕ) → goodHead s ≡ true → counted (byte 7 s) 0 (drop 60 s) ≡ Corners n
-          → (leb (2 * n) f ≡ true) ⊎ (leb (2 * n) f ≡ false) → (leb (byte 7 s) r ≡ true) ⊎ (leb (byte 7 s) r ≡ false) → Accepted s f r j
-      fits n t e (inl a) (inl b) =
+      fits : (n : ℕ) → counted (byte 7 s) 0 t ≡ Corners n → roomed f r (framedJob s (counted (byte 7 s) 0 t)) ≡ Done j
+          → (leb (2 * n) f ≡ true) ⊎ (leb (2 * n) f ≡ false) → (leb (byte 7 s) r ≡ true) ⊎ (leb (byte 7 s) r ≡ false) → Accepted s t f r j
+      fits n e p (inl a) (inl b) =
           let h = leb-true (2 * n) f a in
           let l = leb-true (byte 7 s) r b in
-          let d : Done (jobOf s n) ≡ Done j = parsed-done s f r t n e h l ∙ p in
+          let d : Done (jobOf s n) ≡ Done j = framed-done s t f r n e h l ∙ p in
           let q : jobOf s n ≡ j = cc in
-          subst (λ (x : Job). Accepted s f r x) q (made f r n e h l)
-      fits n t e (inl a) (inr b) = refuses (parsed-ends s f r t n e (leb-true (2 * n) f a) (leb-false (byte 7 s) r b) ∙ p)
-      fits n t e (inr a) b = refuses (parsed-corners s f r t n e (leb-false (2 * n) f a) ∙ p)
+          subst (λ (x : Job). Accepted s t f r x) q (made f r n e h l)
+      fits n e p (inl a) (inr b) = refuses (framed-ends s t f r n e (leb-true (2 * n) f a) (leb-false (byte 7 s) r b) ∙ p)
+      fits n e p (inr a) b = refuses (framed-corners s t f r n e (leb-false (2 * n) f a) ∙ p)
 
-      go : (goodHead s ≡ true) ⊎ (goodHead s ≡ false) → ((n : ℕ) × (counted (byte 7 s) 0 (drop 60 s) ≡ Corners n)) ⊎ (counted (byte 7 s) 0 (drop 60 s) ≡ Badly) → Accepted s f r j
-      go (inl t) (inl w) = fits (w .0) t (w .1) (either (leb (2 * w .0) f)) (either (leb (byte 7 s) r))
-      go (inl t) (inr e) = refuses (parsed-badly s f r t e ∙ p)
-      go (inr t) w = refuses (parsed-head s f r t ∙ p)
+      go : (g : Bool) (w : Framing) → counted (byte 7 s) 0 t ≡ w → roomed f r (decodedBy g s t) ≡ Done j → Accepted s t f r j
+      go true (Corners n) e p = fits n e p (either (leb (2 * n) f)) (either (leb (byte 7 s) r))
+      go true Badly e p = refuses (framed-badly s t f r e ∙ p)
+      go false w e p = refuses p
 
   -- where 2,048 floats and 255 ends are lent, ROOM is never given
-  pub lent-enough : (f r : ℕ) → 2048 ≤ f → 255 ≤ r → byte 7 s < 256 → parsed s f r ≡ decoded s
-  unfolding decoded parsed jobOf
-  lent-enough f r h l b = go (either (goodHead s)) (framing (counted (byte 7 s) 0 (drop 60 s)))
+  pub lent-enough : (good : Bool) (f r : ℕ) → 2048 ≤ f → 255 ≤ r → byte 7 s < 256 → roomed f r (decodedBy good s t) ≡ decodedBy good s t
+  unfolding jobOf
+  lent-enough good f r h l b = go good (counted (byte 7 s) 0 t) refl
     where
-      go : (goodHead s ≡ true) ⊎ (goodHead s ≡ false) → ((n : ℕ) × (counted (byte 7 s) 0 (drop 60 s) ≡ Corners n)) ⊎ (counted (byte 7 s) 0 (drop 60 s) ≡ Badly) → parsed s f r ≡ decoded s
-      go (inl t) (inl w) = rw (t, w .1, le-leb (2 * w .0) f (omega (arith, counted-few (byte 7 s) 0 (drop 60 s) (w .0) (omega arith) (w .1))), le-leb (byte 7 s) r (omega arith))
-      go (inl t) (inr e) = rw (t, e)
-      go (inr t) w = rw t
+      go : (g : Bool) (w : Framing) → counted (byte 7 s) 0 t ≡ w → roomed f r (decodedBy g s t) ≡ decodedBy g s t
+      go true (Corners n) e = rw (e, le-leb (2 * n) f (omega (arith, counted-few (byte 7 s) 0 t n (omega arith) e)), le-leb (byte 7 s) r (omega arith))
+      go true Badly e = rw e
+      go false w e = refl
 
 -- ---- digits
 

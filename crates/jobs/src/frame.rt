@@ -3,12 +3,16 @@ ghost use mathlib.Core.Path.{_≡_};
 ghost use Prim.Native.Nat.{_+_, _*_, _≤_};
 ghost use lib.ListN.{length, drop};
 ghost use Rattle.jobs.specs.Job.{head, goodHead, counted};
+ghost use Rattle.jobs.specs.Job2.{goodHead2};
 use crate::number::count_at;
 use crate::number::number_at;
 use limits::MOST_CORNERS;
 
 // The bytes before the rings.
 pub const HEAD: usize = 60;
+
+// Those of a version 2 job: the second fill's values are 37.
+const HEAD2: usize = 97;
 
 // What the rings come to.
 pub enum Framing {
@@ -17,8 +21,8 @@ pub enum Framing {
 }
 
 // The length, the version, and the bytes that are 0 or 1.
-pub fn good_head(s: &[u8]) -> bool
-    ensures { λ r. ⌜ r ≡ goodHead (now (s .entry)) ⌝ }
+pub fn good_head(s: &[u8], version: u8) -> bool
+    ensures { λ r. ⌜ r ≡ goodHead version (now (s .entry)) ⌝ }
 {
     if s.len() < HEAD {
         return false;
@@ -26,13 +30,26 @@ pub fn good_head(s: &[u8]) -> bool
     if number_at(s, 0, 4) != (s.len() - 4) as u64 {
         return false;
     }
-    if s[4] != 1 {
+    if s[4] != version {
         return false;
     }
     if s[5] > 1 {
         return false;
     }
     s[6] <= 1
+}
+
+// The same of a version 2 job, with the second fill's byte that is 0 or 1.
+pub fn good_head2(s: &[u8]) -> bool
+    ensures { λ r. ⌜ r ≡ goodHead2 (now (s .entry)) ⌝ }
+{
+    if s.len() < HEAD2 {
+        return false;
+    }
+    if s[60] > 1 {
+        return false;
+    }
+    good_head(s, 2)
 }
 
 // The corners of so many rings, which stand behind the head and end the job.

@@ -40,7 +40,7 @@ fn put_sections(
 ) -> usize
     requires { ⌜ (sections ≤ length (now stops)) × Ends (now points) 0 (take sections (now stops)) × (at + 55 * (length (now points) / 2) ≤ length (now out)) ⌝ }
     ensures { λ _. ⌜ Put (now (out .entry)) (now (out .exit)) at (sectionLines (now (points .entry)) 0 0 (take sections (now (stops .entry)))) ⌝ }
-    ensures { λ r. ⌜ r ≡ at + length (sectionLines (now (points .entry)) 0 0 (take sections (now (stops .entry)))) ⌝ }
+    ensures { λ r. ⌜ (r ≡ at + length (sectionLines (now (points .entry)) 0 0 (take sections (now (stops .entry))))) × (r ≤ at + 55 * (length (now (points .entry)) / 2)) ⌝ }
 {
     let mut k = at;
     let mut from = 0;
@@ -65,7 +65,7 @@ pub fn listing(
 ) -> usize
     requires { ⌜ (sections ≤ length (now stops)) × Ends (now points) 0 (take sections (now stops)) × (63 + 55 * (length (now points) / 2) ≤ length (now out)) ⌝ }
     ensures { λ r. ⌜ now (out .exit) ≡ Text·listing answer sections many (now (points .entry)) (now (stops .entry)) ++ drop r (now (out .entry)) ⌝ }
-    ensures { λ r. ⌜ r ≡ length (Text·listing answer sections many (now (points .entry)) (now (stops .entry))) ⌝ }
+    ensures { λ r. ⌜ (r ≡ length (Text·listing answer sections many (now (points .entry)) (now (stops .entry)))) × (r ≤ 63 + 55 * (length (now (points .entry)) / 2)) ⌝ }
 {
     let k = put_head(answer, sections as u64, many, out);
     put_sections(sections, points, stops, out, k)

@@ -77,14 +77,7 @@ fn make(rng: &mut Rng, call: usize) -> Call {
         None if rng.one_in(2) => (fills::any(rng), rng.index(3)),
         None => (fills::any(rng), rng.index(ways)),
     };
-    let own = fills::any(rng);
-    let second = Fill {
-        outline: first.outline.clone(),
-        rule: first.rule,
-        cosine: first.cosine,
-        sine: first.sine,
-        ..own
-    };
+    let second = fills::beneath(rng, &first);
     Call {
         lent: lend(way, &owed::twice_need(&first, &second)),
         first,

@@ -78,6 +78,17 @@ pub fn any(rng: &mut Rng) -> Fill {
     fill
 }
 
+/// A fill of any kind with another's outline, rule and angle (request [6]).
+pub fn beneath(rng: &mut Rng, first: &Fill) -> Fill {
+    Fill {
+        outline: first.outline.clone(),
+        rule: first.rule,
+        cosine: first.cosine,
+        sine: first.sine,
+        ..any(rng)
+    }
+}
+
 /// A fill with a sound outline and settings within their ranges; of its cosine
 /// and sine some are refused, and seldom it has too many rows. Spacing and len
 /// go by the outline's size, so that most fills have few rows and points.

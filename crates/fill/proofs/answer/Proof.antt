@@ -1,30 +1,18 @@
--- What a job leaves, listed. Assumes nothing.
-use lib.Ieee.{ofBits}
-use mathlib.Core.Path.{_∙_, ap}
-use mathlib.Core.List.{_++_}
-use native.Mathlib.Omega.{arith}
-use lib.ListN.{length, drop, replicate}
-use Rattle.numbers.specs.Num.{zero64}
-use Rattle.desk.specs.Listing.{lentLeft, printed}
-use Rattle.desk.specs.ListingLaws.{job-told, told-read, listing-is}
+-- One listing, or two by the version byte. Assumes nothing.
+use Rattle.fill.proofs.Lines.{printed-short, printed-two, printed-one}
 use borrow.Author.Needs.{needs}
 use Rattle.fill.proofs.answer.Statement.{statement}
 use Rattle.fill.proofs.answer.Tie as tie
 
-listing-requires : tie.Need-listing-requires
-unfolding ofBits
-listing-requires c κs =
-    let f = c .before .before .before .before .before .fill .ensures in
-    let t = told-read (lentLeft (c .before .before .before .before .before .before .before .before .before .before .args .bytes .now)) (f .0) (f .1) (f .2) (job-told (replicate 8192 zero64) (replicate 8192 zero64) (replicate 512 0) (replicate 8192 0) (c .before .before .before .before .before .before .before .before .before .before .args .bytes .now) 2048 255) in
-    (t .0, t .1, omega (arith, c .before .before .before .before .before .before .before .before .before .before .pre))
-
 returns : tie.Need-returns
-unfolding ofBits printed
-returns c =
-    let f = c .before .before .before .before .before .before .before .before .fill .ensures in
-    let e = listing-is (lentLeft (c .before .before .before .before .before .before .before .before .before .before .before .before .before .args .bytes .now)) (f .0) (f .1) (f .2) in
-    (c .before .before .listing .ensures .0 ∙ ap (λ l. l ++ drop (c .before .before .listing .result) (c .before .before .before .before .before .before .before .before .before .before .before .before .before .args .out .now)) e, c .before .before .listing .ensures .1 ∙ ap length e)
+returns c = rw (printed-short (c .before .before .before .before .before .before .before .args .bytes .now) (c .before .before .before .before .if1 .taken)) (c .before .before .answer1 .ensures)
+
+returns-2 : tie.Need-returns-2
+returns-2 c = rw (printed-two (c .before .before .before .before .before .before .before .before .before .args .bytes .now) (c .before .before .before .before .before .before .if1 .left) (c .before .before .before .before .if2 .taken)) (c .before .before .answer2 .ensures)
+
+returns-3 : tie.Need-returns-3
+returns-3 c = rw (printed-one (c .before .before .before .before .before .before .before .before .before .args .bytes .now) (c .before .before .before .before .before .before .if1 .left) (c .before .before .before .before .if2 .left)) (c .before .before .answer12 .ensures)
 
 pub answer-spec : {M : Type 1} → statement M
 answer-spec =
-    tie.close (tie.spec (λ c. search needs) (λ c. search needs) (λ c κs. search needs) (λ c. search needs) (λ c. search needs) listing-requires (λ c. search needs) returns)
+    tie.close (tie.spec (λ c κs. search needs) (λ c. search needs) returns (λ c. search needs) (λ c κs. search needs) (λ c. search needs) returns-2 (λ c κs. search needs) (λ c. search needs) returns-3)

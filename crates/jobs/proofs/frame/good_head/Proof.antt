@@ -15,15 +15,15 @@ returns-2 c = rw (le-leb 60 _ (c .before .before .if1 .left), ne-eqb _ _ (λ e. 
 
 returns-3 : tie.Need-returns-3
 unfolding goodHead
-returns-3 c = rw (le-leb 60 _ (c .before .before .before .before .if1 .left), eq-eqb _ _ (sym (c .before .before .before .number-at .ensures .0) ∙ c .before .before .if2 .left), ne-eqb _ 1 (c .if3 .taken))
+returns-3 c = rw (le-leb 60 _ (c .before .before .before .before .if1 .left), eq-eqb _ _ (sym (c .before .before .before .number-at .ensures .0) ∙ c .before .before .if2 .left), ne-eqb _ _ (c .if3 .taken))
 
 returns-4 : tie.Need-returns-4
 unfolding goodHead
-returns-4 c = rw (le-leb 60 _ (c .before .before .before .before .before .before .if1 .left), eq-eqb _ _ (sym (c .before .before .before .before .before .number-at .ensures .0) ∙ c .before .before .before .before .if2 .left), eq-eqb _ 1 (c .before .before .if3 .left), lt-leb _ 1 (c .if4 .taken))
+returns-4 c = rw (le-leb 60 _ (c .before .before .before .before .before .before .if1 .left), eq-eqb _ _ (sym (c .before .before .before .before .before .number-at .ensures .0) ∙ c .before .before .before .before .if2 .left), eq-eqb _ _ (c .before .before .if3 .left), lt-leb _ 1 (c .if4 .taken))
 
 returns-5 : tie.Need-returns-5
 unfolding goodHead
-returns-5 c = rw (le-leb 60 _ (c .before .before .before .before .before .before .before .if1 .left), eq-eqb _ _ (sym (c .before .before .before .before .before .before .number-at .ensures .0) ∙ c .before .before .before .before .before .if2 .left), eq-eqb _ 1 (c .before .before .before .if3 .left), le-leb _ 1 (c .before .if4 .left))
+returns-5 c = rw (le-leb 60 _ (c .before .before .before .before .before .before .before .if1 .left), eq-eqb _ _ (sym (c .before .before .before .before .before .before .number-at .ensures .0) ∙ c .before .before .before .before .before .if2 .left), eq-eqb _ _ (c .before .before .before .if3 .left), le-leb _ 1 (c .before .if4 .left))
 
 pub good-head-spec : {M : Type 1} → statement M
 good-head-spec =

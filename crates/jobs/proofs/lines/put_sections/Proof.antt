@@ -19,7 +19,7 @@ loop-holds c = (c .before .before .before .pre .0, sections-start _ _ _ _ _ (c .
 put-points-requires : tie.Need-put-points-requires Inv-loop μ-loop
 put-points-requires c κs =
     let a = sections-at _ _ _ _ _ (c .before .before .before .loop .inv .0) (c .before .before .before .loop .inv .1) (c .before .before .loop-test .taken) in
-    (a .0, a .1, omega (arith, a .0, a .1, c .before .before .before .loop .inv .1 .most, c .before .before .before .loop .inv .1 .front .len))
+    (a .0, a .1, omega (arith, a .0, a .1, c .before .before .before .loop .inv .1 .most, c .before .before .before .loop .inv .1 .fits, c .before .before .before .loop .inv .1 .front .len))
 
 loop-again : tie.Need-loop-again Inv-loop μ-loop
 loop-again c = (c .before .before .before .before .before .before .loop .inv .0, sections-next _ _ _ _ _ (c .before .before .before .before .before .before .loop .inv .0) (c .before .before .before .before .before .before .loop .inv .1) (c .before .before .before .before .before .loop-test .taken) (c .before .before .put-points .ensures .0) (c .before .before .put-points .ensures .1 .0) (c .before .before .put-points .ensures .1 .1))
