@@ -1,7 +1,8 @@
 //! Tatami fill, and the row list that it sews.
 
 use crate::raw::{
-    beahcerot_plain_tatami, beahcerot_row_list, beahcerot_tatami, beahcerot_tatami_twice,
+    beahcerot_fill_job2, beahcerot_plain_tatami, beahcerot_row_list, beahcerot_tatami,
+    beahcerot_tatami_twice,
 };
 use crate::room::{DONE, ROOM, Room, WORK, lend};
 use crate::{FillRule, P, Polyline, Refusal, lines, outline};
@@ -142,6 +143,47 @@ fn sewn(
 /// What one of two fills over one table came to.
 pub type Sewn = Result<Vec<Polyline>, Refusal>;
 
+/// What two fills over one table are lent: the table's first, then each fill's.
+struct Layers {
+    floats: [Vec<f64>; 3],
+    wholes: [Vec<usize>; 3],
+    out: [Vec<f64>; 2],
+    stops: [Vec<usize>; 2],
+    sections: [u64; 2],
+    count: [u64; 2],
+    /// What the second fill answers.
+    answer: u64,
+}
+
+/// Lends until neither fill asks for more.
+fn both(room: Room, mut call: impl FnMut(&mut Layers) -> u64) -> [Sewn; 2] {
+    let both = lend(room, |room| {
+        let mut l = Layers {
+            floats: [(); 3].map(|()| vec![0.0; room.work]),
+            wholes: [(); 3].map(|()| vec![0; room.work]),
+            out: [(); 2].map(|()| vec![0.0; room.out]),
+            stops: [(); 2].map(|()| vec![0; room.out / 4]),
+            sections: [0; 2],
+            count: [0; 2],
+            answer: 0,
+        };
+        let answers = [call(&mut l), l.answer];
+        let sewn = [0, 1].map(|i| {
+            let stops = &l.stops[i][..l.sections[i] as usize];
+            (answers[i], lines(&l.out[i], stops))
+        });
+        let short = answers.into_iter().find(|n| [WORK, ROOM].contains(n));
+        (short.unwrap_or(DONE), sewn)
+    });
+    match both {
+        Ok(both) => both.map(|(answer, sewn)| match answer {
+            DONE => Ok(sewn),
+            number => Err(Refusal::of(number)),
+        }),
+        Err(refusal) => [Err(refusal), Err(refusal)],
+    }
+}
+
 /// A light fill beneath a dense one, over one edge table at the first's angle.
 /// One may be refused and the other sewn; the outline's refusal is given to both.
 pub fn tatami_twice(
@@ -151,79 +193,95 @@ pub fn tatami_twice(
     second: &FillParams,
 ) -> [Sewn; 2] {
     let (corners, ends) = outline(rings);
-    let both = lend(guess(corners.len()), |room| {
-        let (mut table, mut places) = (vec![0.0; room.work], vec![0; room.work]);
-        let (mut floats, mut wholes) = (vec![0.0; room.work], vec![0; room.work]);
-        let (mut floats2, mut wholes2) = (vec![0.0; room.work], vec![0; room.work]);
-        let (mut out, mut stops) = (vec![0.0; room.out], vec![0; room.out / 4]);
-        let (mut out2, mut stops2) = (vec![0.0; room.out], vec![0; room.out / 4]);
-        let (mut sections, mut count) = (0, 0);
-        let (mut answer2, mut sections2, mut count2) = (0, 0, 0);
-        let answer = unsafe {
-            beahcerot_tatami_twice(
-                corners.as_ptr(),
-                corners.len(),
-                ends.as_ptr(),
-                ends.len(),
-                rule.number(),
-                first.angle.cos(),
-                first.angle.sin(),
-                first.spacing,
-                first.len,
-                first.inset,
-                first.pull,
-                first.stagger.into(),
-                first.bottom_up,
-                second.spacing,
-                second.len,
-                second.inset,
-                second.pull,
-                second.stagger.into(),
-                second.bottom_up,
-                table.as_mut_ptr(),
-                table.len(),
-                places.as_mut_ptr(),
-                places.len(),
-                floats.as_mut_ptr(),
-                floats.len(),
-                wholes.as_mut_ptr(),
-                wholes.len(),
-                out.as_mut_ptr(),
-                out.len(),
-                stops.as_mut_ptr(),
-                stops.len(),
-                floats2.as_mut_ptr(),
-                floats2.len(),
-                wholes2.as_mut_ptr(),
-                wholes2.len(),
-                out2.as_mut_ptr(),
-                out2.len(),
-                stops2.as_mut_ptr(),
-                stops2.len(),
-                &mut sections,
-                &mut count,
-                &mut answer2,
-                &mut sections2,
-                &mut count2,
-            )
-        };
-        let both = [
-            (answer, lines(&out, &stops[..sections as usize])),
-            (answer2, lines(&out2, &stops2[..sections2 as usize])),
-        ];
-        // More is lent as long as either asks for it.
-        let short = [answer, answer2]
-            .into_iter()
-            .find(|n| [WORK, ROOM].contains(n));
-        (short.unwrap_or(DONE), both)
-    });
-    match both {
-        Ok(both) => both.map(|(answer, sewn)| match answer {
-            DONE => Ok(sewn),
-            number => Err(Refusal::of(number)),
-        }),
-        Err(refusal) => [Err(refusal), Err(refusal)],
-    }
+    both(guess(corners.len()), |l| unsafe {
+        beahcerot_tatami_twice(
+            corners.as_ptr(),
+            corners.len(),
+            ends.as_ptr(),
+            ends.len(),
+            rule.number(),
+            first.angle.cos(),
+            first.angle.sin(),
+            first.spacing,
+            first.len,
+            first.inset,
+            first.pull,
+            first.stagger.into(),
+            first.bottom_up,
+            second.spacing,
+            second.len,
+            second.inset,
+            second.pull,
+            second.stagger.into(),
+            second.bottom_up,
+            l.floats[0].as_mut_ptr(),
+            l.floats[0].len(),
+            l.wholes[0].as_mut_ptr(),
+            l.wholes[0].len(),
+            l.floats[1].as_mut_ptr(),
+            l.floats[1].len(),
+            l.wholes[1].as_mut_ptr(),
+            l.wholes[1].len(),
+            l.out[0].as_mut_ptr(),
+            l.out[0].len(),
+            l.stops[0].as_mut_ptr(),
+            l.stops[0].len(),
+            l.floats[2].as_mut_ptr(),
+            l.floats[2].len(),
+            l.wholes[2].as_mut_ptr(),
+            l.wholes[2].len(),
+            l.out[1].as_mut_ptr(),
+            l.out[1].len(),
+            l.stops[1].as_mut_ptr(),
+            l.stops[1].len(),
+            &mut l.sections[0],
+            &mut l.count[0],
+            &mut l.answer,
+            &mut l.sections[1],
+            &mut l.count[1],
+        )
+    })
+}
+
+/// Both fills of a version 2 job of the program `fill`, by its bytes.
+pub fn fill_job2(bytes: &[u8]) -> [Sewn; 2] {
+    // Room for the outline of every job.
+    let (mut corners, mut ends) = ([0.0; 2048], [0; 255]);
+    both(guess(bytes.len() / 8), |l| unsafe {
+        beahcerot_fill_job2(
+            bytes.as_ptr(),
+            bytes.len(),
+            corners.as_mut_ptr(),
+            corners.len(),
+            ends.as_mut_ptr(),
+            ends.len(),
+            l.floats[0].as_mut_ptr(),
+            l.floats[0].len(),
+            l.wholes[0].as_mut_ptr(),
+            l.wholes[0].len(),
+            l.floats[1].as_mut_ptr(),
+            l.floats[1].len(),
+            l.wholes[1].as_mut_ptr(),
+            l.wholes[1].len(),
+            l.out[0].as_mut_ptr(),
+            l.out[0].len(),
+            l.stops[0].as_mut_ptr(),
+            l.stops[0].len(),
+            l.floats[2].as_mut_ptr(),
+            l.floats[2].len(),
+            l.wholes[2].as_mut_ptr(),
+            l.wholes[2].len(),
+            l.out[1].as_mut_ptr(),
+            l.out[1].len(),
+            l.stops[1].as_mut_ptr(),
+            l.stops[1].len(),
+            &mut l.sections[0],
+            &mut l.count[0],
+            &mut l.answer,
+            &mut l.sections[1],
+            &mut l.count[1],
+        )
+    })
 }
 
 /// Every kept piece, in the order met, with the section that sews it.

@@ -15,7 +15,7 @@ mod room;
 mod satin;
 
 pub use fill::{
-    FillParams, Piece, Sewn, cross_check, row_list, tatami, tatami_plain, tatami_twice,
+    FillParams, Piece, Sewn, cross_check, fill_job2, row_list, tatami, tatami_plain, tatami_twice,
 };
 pub use line::running;
 pub use mending::{Dropped, Reason, salvage};

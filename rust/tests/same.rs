@@ -154,6 +154,60 @@ fn tatami_twice_is_two_of_zigzags() {
     assert!(points > 100_000, "only {points} points were compared");
 }
 
+/// A version 2 job's bytes: the rule and the first fill; the second's own values; the rings.
+fn job2(
+    rings: &[Vec<ours::P>],
+    rule: ours::FillRule,
+    p: &ours::FillParams,
+    q: &ours::FillParams,
+) -> Vec<u8> {
+    let rule = u8::from(rule == ours::FillRule::EvenOdd);
+    let mut body = vec![2, rule, p.bottom_up.into(), rings.len() as u8];
+    body.extend(p.stagger.to_be_bytes());
+    for x in [p.angle.cos(), p.angle.sin()] {
+        body.extend(x.to_be_bytes());
+    }
+    for x in [p.spacing, p.len, p.inset, p.pull] {
+        body.extend(x.to_be_bytes());
+    }
+    body.push(q.bottom_up.into());
+    body.extend(q.stagger.to_be_bytes());
+    for x in [q.spacing, q.len, q.inset, q.pull] {
+        body.extend(x.to_be_bytes());
+    }
+    for ring in rings {
+        body.extend((ring.len() as u16).to_be_bytes());
+        body.extend(
+            ring.iter()
+                .flat_map(|c| [c.x, c.y])
+                .flat_map(f64::to_be_bytes),
+        );
+    }
+    [&(body.len() as u32).to_be_bytes(), &body[..]].concat()
+}
+
+#[test]
+fn a_version_2_job_is_two_fills() {
+    let mut s = Shapes(7);
+    let mut points = 0;
+    for round in 0..ROUNDS {
+        let (rings, (rule, _)) = (s.rings(), s.rule());
+        let angle = s.number(-4, 4);
+        let ((p, _), (mut q, _)) = (params(&mut s, angle), params(&mut s, angle));
+        if round % 8 == 0 {
+            q.spacing = 0.0;
+        }
+        let mut bytes = job2(&rings, rule, &p, &q);
+        let sewn = ours::fill_job2(&bytes);
+        assert_eq!(sewn, ours::tatami_twice(&rings, rule, &p, &q));
+        points += sewn[0].iter().flatten().map(|l| l.len()).sum::<usize>();
+        bytes.push(0);
+        let refused = || Err(ours::Refusal::Layout);
+        assert_eq!(ours::fill_job2(&bytes), [refused(), refused()]);
+    }
+    assert!(points > 100_000, "only {points} points were compared");
+}
+
 #[test]
 fn tatami_is_zigzags() {
     let mut s = Shapes(1);
