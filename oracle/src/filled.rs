@@ -1,6 +1,6 @@
 //! A job's bytes through the archive, told as the program tells it.
 
-use crate::job::{LENT, is_second, listing};
+use crate::job::{LENT, listing};
 use crate::ours::fill::{Sewn, Work, fill_job, fill_job2};
 
 /// What the program lends to a fill.
@@ -62,13 +62,4 @@ pub fn filled2(bytes: &[u8]) -> String {
     let (work2, out2) = second.parts();
     let [answer, answer2] = fill_job2(bytes, table.parts().0, [work, work2], [out, out2]);
     first.listing(answer) + &second.listing(answer2)
-}
-
-/// The same by the version that the bytes say.
-pub fn filled(bytes: &[u8]) -> String {
-    if is_second(bytes) {
-        filled2(bytes)
-    } else {
-        filled1(bytes)
-    }
 }

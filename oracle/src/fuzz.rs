@@ -16,10 +16,10 @@ mod owed;
 mod program;
 mod rng;
 
-use filled::filled;
+use filled::{filled1, filled2};
 use inputs::{boundaries::boundaries, fills};
 use job::{job, job2, relength};
-use program::{check, compare, program};
+use program::{check, compare, is_second, program};
 use rng::Rng;
 use std::io::Read;
 use std::path::Path;
@@ -43,7 +43,12 @@ fn seeds(folder: &Path) -> std::io::Result<()> {
 }
 
 fn look(bytes: &[u8], with_program: bool) {
-    compare(bytes, &filled(bytes));
+    let given = if is_second(bytes) {
+        filled2(bytes)
+    } else {
+        filled1(bytes)
+    };
+    compare(bytes, &given);
     if with_program {
         check(&program().expect("the program fill"), bytes);
     }

@@ -54,11 +54,6 @@ pub fn job2(f: &Fill, second: &Fill) -> Option<Vec<u8>> {
     Some(relength(bytes))
 }
 
-/// Whether two listings are printed.
-pub fn is_second(bytes: &[u8]) -> bool {
-    bytes.get(4) == Some(&2)
-}
-
 /// The next so many bytes.
 fn take<const N: usize>(bytes: &mut &[u8]) -> Option<[u8; N]> {
     let (front, rest) = bytes.split_first_chunk()?;
@@ -176,15 +171,6 @@ pub fn wanted2(bytes: &[u8]) -> String {
         let (counts, slices) = (&left.counts, &left.slices);
         told(left.answer, counts, &slices[2..]) + &told(counts[2], &counts[3..], &slices[6..])
     })
-}
-
-/// What the program owes.
-pub fn wanted_of(bytes: &[u8]) -> String {
-    if is_second(bytes) {
-        wanted2(bytes)
-    } else {
-        wanted1(bytes)
-    }
 }
 
 /// A job with its length made right again.

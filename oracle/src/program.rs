@@ -1,7 +1,7 @@
 //! The program `fill` run on a job's bytes. BEAHCEROT_FILL names another program than
 //! `target/bin/fill`.
 
-use crate::job::wanted_of;
+use crate::job::{wanted1, wanted2};
 use std::io::{Read, Write, stderr};
 use std::path::{Path, PathBuf};
 use std::process::{Child, Command, Stdio};
@@ -109,6 +109,20 @@ pub fn run_in_pieces<'a>(
 
 pub fn run(program: &Path, bytes: &[u8]) -> String {
     run_in_pieces(program, std::iter::once(bytes), Duration::ZERO)
+}
+
+/// Whether two listings are printed.
+pub fn is_second(bytes: &[u8]) -> bool {
+    bytes.get(4) == Some(&2)
+}
+
+/// What the program owes.
+pub fn wanted_of(bytes: &[u8]) -> String {
+    if is_second(bytes) {
+        wanted2(bytes)
+    } else {
+        wanted1(bytes)
+    }
 }
 
 /// Compares a listing with what some bytes owe; gives the answer's number.
