@@ -40,7 +40,7 @@ fn kept_side(a: P, b: P) -> KeptSide
 }
 
 // The turned corner at place i of the flat list.
-fn corner(l: &[f64], i: usize, g: Settings) -> P
+pub fn corner(l: &[f64], i: usize, g: Settings) -> P
     requires { ⌜ i + 1 < length (now l) ⌝ }
     ensures { λ r. ⌜ r ≡ corner g (now (l .entry)) i ⌝ }
 {
@@ -52,7 +52,7 @@ fn corner(l: &[f64], i: usize, g: Settings) -> P
 }
 
 // Where the next corner stands: after the last comes the first.
-fn following(i: usize, n: usize) -> usize
+pub fn following(i: usize, n: usize) -> usize
     requires { ⌜ i < n ⌝ }
     ensures { λ r. ⌜ r ≡ following i n ⌝ }
 {

@@ -10,7 +10,7 @@ use lib.Pow.{pow-pos}
 use lib.Dec.{T, eqb}
 use lib.Count.{trailingZeros}
 use borrow.Author.Tests.{lt-leb, le-leb, ne-eqb}
-use lib.Ieee.{Float, nan, inf, fin, binary64, up, down, minus, odd, ofBits, toBits, ofFields, fits, isNan, ne}
+use lib.Ieee.{Float, nan, inf, fin, binary64, up, down, minus, odd, ofBits, toBits, ofFields, fits, isNan, eq, ne}
 use lib.Ieee.Compare.{differs-from-itself}
 use lib.Ieee.Digits.{Equals, odd-val}
 use lib.Ieee.Fits.{down-pos}
@@ -26,6 +26,12 @@ unfolding ne isNan
 not-nan nan h = subst T h tt
 not-nan (inf s) h = tt
 not-nan (fin s m e) h = tt
+
+pub not-nan-itself : (x : Float) → eq x x ≡ true → T (not (isNan x))
+unfolding eq isNan
+not-nan-itself nan h = subst T (sym h) tt
+not-nan-itself (inf s) h = tt
+not-nan-itself (fin s m e) h = tt
 
 -- what a pattern says of its value holds of the value
 pub by-pattern : (P : Float → Type 0) (x : Float) → T (fits binary64 x) → P (ofBits binary64 (toBits binary64 x)) → P x

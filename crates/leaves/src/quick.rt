@@ -6,19 +6,16 @@ ghost use Prim.Native.Nat.{ℕ, _+_, _*_, _%_, _^_, _<_, _≤_};
 ghost use lib.Dec.{ltb};
 ghost use Rattle.numbers.specs.Root.{nearRoot, root};
 use crate::bits::of_bits;
-use crate::bits::to_bits;
 
-// A number near the root of x, whose pattern is b: half of its exponent, then Newton's steps. Nothing is promised of it.
+// A number near the root of x, whose pattern is b: half of its exponent, two of Heron's steps in one and a third, with the
+// factors that leave the least error. Nothing is promised of it.
 fn guess(x: f64, b: u64) -> f64
     requires { ⌜ b < 2 ^ 63 ⌝ }
 {
-    let y = of_bits(6910469410427058089 - b / 2);
-    let half = x * 0.5;
-    let z = y * (1.5 - half * y * y);
-    let v = z * (1.5 - half * z * z);
-    let u = v * (1.5 - half * v * v);
-    let g = x * u;
-    g + (x - g * g) * (u * 0.5)
+    let s = of_bits(b / 2 + 2303591209400008704);
+    let t = s * s + x * 1.0606601717798212;
+    let v = t / (s * 2.0602136336500206) + x * 2.0602135852631225 * s / t;
+    v * 0.25 + x / v
 }
 
 // 1 where a is above b, otherwise 0.
@@ -78,21 +75,23 @@ fn evened(d: u64, e: u64) -> u64
     if e % 2 == 1 { d } else { d * 2 }
 }
 
-// IEEE 754's squareRoot, as `digits::root` gives it.
+// IEEE 754's squareRoot, as `digits::root` gives it. Of the guess only the digits are taken: the exponent is known.
 pub fn root(x: f64) -> f64
     ensures { λ r. ⌜ r ≡ root x ⌝ }
 {
-    let b = to_bits(x);
-    if b >= 4503599627370496 {
-        if b < 9218868437227405312 {
-            let e = b / 4503599627370496;
-            let w = evened(b % 4503599627370496 + 4503599627370496, e);
-            let k = (e + 1021) / 2 * 4503599627370496;
-            let g = to_bits(guess(x, b));
-            if k <= g {
-                let q = tried(w, g - k);
-                if q > 0 {
-                    return of_bits(k + q);
+    if x == x {
+        let b = f64::to_bits(x);
+        if b >= 4503599627370496 {
+            if b < 9218868437227405312 {
+                let e = b / 4503599627370496;
+                let w = evened(b % 4503599627370496 + 4503599627370496, e);
+                let k = (e + 1021) / 2 * 4503599627370496;
+                let g = guess(x, b);
+                if g == g {
+                    let q = tried(w, f64::to_bits(g) % 4503599627370496 + 4503599627370496);
+                    if q > 0 {
+                        return f64::from_bits(k + q);
+                    }
                 }
             }
         }

@@ -1,11 +1,11 @@
 -- The next crossing of a row, of all that the kept sides have, and the row's pieces from one crossing to the next. Definitions only.
 use Prim.Native.Nat.{ℕ, _+_, _≤_, _<_}
 use mathlib.Core.Path.{_≡_}
-use mathlib.Core.Bool.{true, false, cond}
+use mathlib.Core.Bool.{Bool, true, false, not, cond}
 use mathlib.Core.List.{List, [], _∷_}
 use lib.IntN.{ℤ, pos, natAbs, _+ℤ_}
 use lib.ListN.{length}
-use lib.Ieee.{Float, inf}
+use lib.Ieee.{Float, inf, lt}
 use Rattle.numbers.specs.Num.{zero64}
 use Rattle.numbers.specs.Order.{before}
 use Rattle.seqs.specs.Lists.{sift, fold, All}
@@ -37,6 +37,10 @@ nearer q c m =
 -- an edge that may cross the row
 abbrev pub meet : Ask → Edge → Crossing → Crossing
 meet q e m = cond (crosses (q .y) e) (nearer q (crossAt (q .y) e) m) m
+
+-- row y passes between two heights
+abbrev pub between : Float → Float → Float → Bool
+between y a b = cond (lt y a) (not (lt y b)) (lt y b)
 
 -- as many sides as directions
 pub record Held (q : Ask) (m : Crossing) : Type 0 where

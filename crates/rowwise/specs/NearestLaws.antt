@@ -1,21 +1,25 @@
 -- The nearest crossing is the next of the row's crossings in their order, those of equal x taken as one. Assumes nothing.
-use Prim.Native.Nat.{ℕ, suc, _+_, _≤_, _<_}
+use Prim.Native.Nat.{ℕ, suc, _+_, _^_, _≤_, _<_}
 use native.Mathlib.Omega.{arith}
 use mathlib.Core.Path.{_≡_, refl, sym, ap, _∙_, subst}
-use mathlib.Core.Bool.{Bool, true, false, cond}
+use mathlib.Core.Bool.{Bool, true, false, not, cond, _&&_, true≢false}
 use mathlib.Core.Logic.{inl, inr}
-use mathlib.Core.List.{List, [], _∷_, map}
+use mathlib.Core.List.{List, [], _∷_, _++_, map}
 use lib.IntN.{ℤ, pos, negsuc, _+ℤ_, +ℤ-assoc, +ℤ-comm}
 use lib.ListN.{length}
+use lib.Dec.{T}
 use lib.Ieee.{Float, inf, binary64, fits, le, lt, isNan}
-use Rattle.numbers.specs.Num.{_⊕_, _⊖_, _⊗_}
-use Rattle.numbers.specs.Order.{before}
+use Rattle.numbers.specs.Num.{_⊕_, _⊖_, _⊗_, literal}
+use Rattle.numbers.specs.Order.{before, magnitude}
+use Rattle.numbers.specs.FloatOrder.{le-lt-clash}
 use Rattle.seqs.specs.Lists.{keepIf, sift, fold, All, Sorted}
+use Rattle.seqs.specs.Each.{fold-append}
 use Rattle.seqs.specs.Tests.{either, clash}
 use Rattle.seqs.specs.All.{all-map, all-sift, sorted-sift}
 use Rattle.seqs.specs.Sift.{sift-pass, sift-all, sift-absorb}
 use Rattle.rules.specs.declared.Edge.{Edge}
-use Rattle.rules.specs.Fill.{dir}
+use Rattle.geom.specs.declared.point.P.{P}
+use Rattle.rules.specs.Fill.{dir, edgeOf, keptSide}
 use Rattle.rules.specs.Gathered.{Number, Numbers, Rel, less, more, same, rel, not-self, one-way, through, add, gathered}
 use Rattle.rules.specs.Drawn.{crosses, crossAt, unsorted}
 use Rattle.edges.specs.declared.side.KeptSide.{KeptSide}
@@ -23,7 +27,7 @@ use Rattle.edges.specs.declared.side.KeptSide.the-variants.{Kept}
 use Rattle.edges.specs.Table.{found}
 use Rattle.sweep.specs.declared.piece.Crossing.{Crossing}
 use Rattle.rowwise.specs.declared.crossing.Ask.{Ask}
-use Rattle.rowwise.specs.Nearest.{noneYet, nearer, meet, behind, sidesBehind, Inner, Clear}
+use Rattle.rowwise.specs.Nearest.{noneYet, nearer, meet, between, behind, sidesBehind, Inner, Clear}
 
 -- ---- a side of a ring
 
@@ -39,6 +43,53 @@ module _ (q : Ask) (m : Crossing) (e : Edge) {s : KeptSide} (is : s ≡ Kept e) 
 
   pub side-later : le (e .y0) (q .y) ≡ false → m ≡ fold (meet q) m (found s)
   side-later a = rw (is, a)
+
+-- ---- a side that the row does not pass through
+
+below-not : (x y : Float) → lt y x ≡ true → le x y ≡ false
+below-not x y h = go (le x y) refl
+  where
+    go : (b : Bool) → le x y ≡ b → b ≡ false
+    go true e = absurd (le-lt-clash x y (subst T (sym e) tt) (subst T (sym h) tt))
+    go false e = refl
+
+module _ (q : Ask) (m : Crossing) where
+  above : (e : Edge) → lt (q .y) (e .y0) ≡ true → fold (meet q) m (e ∷ []) ≡ m
+  above e h = rw (below-not (e .y0) (q .y) h)
+
+  under : (e : Edge) → lt (q .y) (e .y1) ≡ false → fold (meet q) m (e ∷ []) ≡ m
+  under e h = go (le (e .y0) (q .y))
+    where
+      go : (b : Bool) → cond (b && lt (q .y) (e .y1)) (nearer q (crossAt (q .y) e) m) m ≡ m
+      go true = rw h
+      go false = refl
+
+  -- an edge begins at one of the two heights and ends at the other
+  of-two : (a b : P) (u v : Bool) → lt (q .y) (a .y) ≡ u → lt (q .y) (b .y) ≡ v → cond u (not v) v ≡ false → (f : Bool) → fold (meet q) m (edgeOf a b f ∷ []) ≡ m
+  unfolding edgeOf
+  of-two a b true true eu ev h f = above (edgeOf a b f) eu
+  of-two a b false false eu ev h f = under (edgeOf a b f) ev
+  of-two a b true false eu ev h f = absurd (true≢false h)
+  of-two a b false true eu ev h f = absurd (true≢false h)
+
+  passed-by : (a b : P) → between (q .y) (a .y) (b .y) ≡ false → fold (meet q) m (keptSide (a, b)) ≡ m
+  unfolding keptSide
+  passed-by a b h = go (lt (magnitude (a .y ⊖ b .y)) (literal 1 (10 ^ 9))) (lt (a .y) (b .y))
+    where
+      turned : (u v : Bool) → cond u (not v) v ≡ false → cond v (not u) u ≡ false
+      turned true true h = refl
+      turned true false h = absurd (true≢false h)
+      turned false true h = absurd (true≢false h)
+      turned false false h = refl
+
+      go : (d r : Bool) → fold (meet q) m (cond d [] (cond r (edgeOf a b true ∷ []) (edgeOf b a false ∷ []))) ≡ m
+      go true true = refl
+      go true false = refl
+      go false true = of-two a b (lt (q .y) (a .y)) (lt (q .y) (b .y)) refl refl h true
+      go false false = of-two b a (lt (q .y) (b .y)) (lt (q .y) (a .y)) refl refl (turned (lt (q .y) (a .y)) (lt (q .y) (b .y)) h) false
+
+  pub passed-over : (a b : P) (es : List Edge) → between (q .y) (a .y) (b .y) ≡ false → fold (meet q) m es ≡ fold (meet q) m (keptSide (a, b) ++ es)
+  passed-over a b es h = sym (ap (λ n. fold (meet q) n es) (passed-by a b h)) ∙ sym (fold-append (meet q) m (keptSide (a, b)) es)
 
 -- ---- gathered crossings rise strictly
 

@@ -1,14 +1,17 @@
 // A row's next crossing, from the rings: of all crossings behind an x the nearest, with all that share its x.
+ghost use mathlib.Core.Path.{_≡_};
 ghost use mathlib.Core.Bool.{cond};
-ghost use Prim.Native.Nat.{_+_, _≤_};
+ghost use Prim.Native.Nat.{_+_, _≤_, _<_};
 ghost use lib.IntN.{pos, negsuc};
 ghost use lib.ListN.{length};
 ghost use Rattle.geom.specs.Outline.{points, rings};
 ghost use Rattle.rules.specs.Fill.{edges};
 ghost use Rattle.rules.specs.Drawn.{crossAt};
-ghost use Rattle.edges.specs.Table.{found, ringEdges, Outline};
-ghost use Rattle.rowwise.specs.Nearest.{Held, noneYet, nearer, Nearer, Gone};
+ghost use Rattle.edges.specs.Table.{corner, following, found, ringEdges, Outline};
+ghost use Rattle.rowwise.specs.Nearest.{Held, between, noneYet, nearer, Nearer, Gone};
 use edges::side::KeptSide;
+use edges::side::corner;
+use edges::side::following;
 use edges::side::side;
 use leaves::before;
 use rules::Settings;
@@ -60,6 +63,19 @@ fn meet(q: Ask, s: KeptSide, m: Crossing) -> Crossing
     m
 }
 
+// Whether row y passes between the ends of the side at place i. Where it doesn't, the side isn't crossed, and no more has to be worked out of it.
+fn passes(l: &[f64], i: usize, g: Settings, y: f64) -> bool
+    requires { ⌜ i + 1 < length (now l) ⌝ }
+    ensures { λ r. ⌜ r ≡ between y (corner g (now (l .entry)) i .y) (corner g (now (l .entry)) (following i (length (now (l .entry)))) .y) ⌝ }
+{
+    let a = corner(l, i, g);
+    let b = corner(l, following(i, l.len()), g);
+    if y < a.y {
+        return !(y < b.y);
+    }
+    y < b.y
+}
+
 // The sides of one ring.
 fn ring_next(l: &[f64], g: Settings, q: Ask, sofar: Crossing) -> Crossing
     requires { ⌜ Held q sofar × (sofar .next + length (now l) ≤ 10000) ⌝ }
@@ -72,6 +88,10 @@ fn ring_next(l: &[f64], g: Settings, q: Ask, sofar: Crossing) -> Crossing
     let mut m = sofar;
     let mut i = 0;
     while i + 1 < n {
+        if !passes(l, i, g, q.y) {
+            i += 2;
+            continue;
+        }
         m = meet(q, side(l, i, g), m);
         i += 2;
     }

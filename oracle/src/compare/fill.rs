@@ -102,6 +102,8 @@ fn show_slice(slice: &[u64]) -> String {
 
 type Need = fn(&Fill) -> Option<Vec<usize>>;
 type Owed = fn(&Fill, &[usize], Equal) -> Left;
+type Sews = fn(&Fill, ours::Work, ours::Sewn) -> u64;
+type Lists = fn(&Fill, ours::Work, ours::Listed) -> u64;
 
 pub(super) fn function(
     name: &'static str,
@@ -164,11 +166,7 @@ fn tatami_left(f: &Fill, words: &[usize]) -> Left {
     sewn_left(f, words, ours::tatami)
 }
 
-pub(super) fn sewn_left(
-    f: &Fill,
-    words: &[usize],
-    call: fn(&Fill, ours::Work, ours::Sewn) -> u64,
-) -> Left {
+pub(super) fn sewn_left(f: &Fill, words: &[usize], call: Sews) -> Left {
     let (mut work, mut wholes) = (floats(words[0]), fresh(words[1]));
     let (mut points, mut ends) = (floats(words[2]), fresh(words[3]));
     let mut counts = vec![MARK; 2];
@@ -200,11 +198,7 @@ fn row_list_left(f: &Fill, words: &[usize]) -> Left {
     listed_left(f, words, ours::row_list)
 }
 
-pub(super) fn listed_left(
-    f: &Fill,
-    words: &[usize],
-    call: fn(&Fill, ours::Work, ours::Listed) -> u64,
-) -> Left {
+pub(super) fn listed_left(f: &Fill, words: &[usize], call: Lists) -> Left {
     let (mut work, mut wholes) = (floats(words[0]), fresh(words[1]));
     let (mut ys, mut rows, mut numbers) = (floats(words[2]), signed(words[3]), fresh(words[4]));
     let mut counts = vec![MARK];
@@ -265,7 +259,7 @@ impl Timed {
         }
     }
 
-    fn tatami(&self) -> (u64, u64) {
+    fn sewn(&self, call: Sews) -> (u64, u64) {
         let s = &mut *self.slices.borrow_mut();
         let (mut sections, mut count) = (0, 0);
         let work = ours::Work {
@@ -278,11 +272,11 @@ impl Timed {
             sections: &mut sections,
             count: &mut count,
         };
-        assert_eq!(ours::tatami(&self.fill, work, out), DONE);
+        assert_eq!(call(&self.fill, work, out), DONE);
         (sections, count)
     }
 
-    fn row_list(&self) -> u64 {
+    fn listed(&self, call: Lists) -> u64 {
         let s = &mut *self.slices.borrow_mut();
         let mut pieces = 0;
         let work = ours::Work {
@@ -295,26 +289,61 @@ impl Timed {
             section_numbers: &mut s.numbers,
             pieces: &mut pieces,
         };
-        assert_eq!(ours::row_list(&self.fill, work, out), DONE);
+        assert_eq!(call(&self.fill, work, out), DONE);
         pieces
     }
 }
 
-fn timed_tatami(mut function: Function) -> Function {
-    let mut cases: Vec<(String, Fill)> = Vec::new();
-    cases.extend(crests::named().into_iter().map(|(n, f)| (n.into(), f)));
+fn timed_tatami(function: Function) -> Function {
+    let mut cases = named();
     let corners = crests::by_corners().into_iter();
     cases.extend(corners.map(|(n, f)| (format!("100 rows, {n} corners"), f)));
     let rows = crests::by_rows().into_iter();
     cases.extend(rows.map(|(n, f)| (format!("40 corners, {n} rows"), f)));
     let points = crests::by_points().into_iter();
     cases.extend(points.map(|f| (format!("100 rows, {} points", points_of(&f)), f)));
+    timed_sewing(function, cases, owed::tatami_need, ours::tatami)
+}
+
+/// The named fills.
+pub(super) fn named() -> Vec<(String, Fill)> {
+    let list = crests::named().into_iter();
+    list.map(|(name, fill)| (name.into(), fill)).collect()
+}
+
+/// A call that sews, of either engine, beside the original's `tatami`.
+pub(super) fn timed_sewing(
+    mut function: Function,
+    cases: Vec<(String, Fill)>,
+    need: Need,
+    call: Sews,
+) -> Function {
     for (name, fill) in cases {
+        let label = format!("{} {name}", function.name);
         function = function.timed_on(
-            format!("tatami {name}"),
-            move |_| vec![Timed::new(&fill, owed::tatami_need)],
+            label,
+            move |_| vec![Timed::new(&fill, need)],
             |t| tatami(&t.rings, t.rule, &t.params),
-            Timed::tatami,
+            move |t| t.sewn(call),
+        );
+    }
+    function
+}
+
+/// A row list, of either engine, beside the original's.
+pub(super) fn timed_listing(
+    mut function: Function,
+    cases: Vec<(String, Fill)>,
+    need: Need,
+    call: Lists,
+) -> Function {
+    for (name, fill) in cases {
+        let label = format!("{} {name}", function.name);
+        function = function.timed_on(
+            label,
+            move |_| vec![Timed::new(&fill, need)],
+            |t| row_list(&t.rings, t.rule, &t.params),
+            move |t| t.listed(call),
         );
     }
     function
@@ -325,16 +354,11 @@ fn points_of(fill: &Fill) -> usize {
     sections.iter().map(Vec::len).sum()
 }
 
-fn timed_row_list(mut function: Function) -> Function {
-    for (name, fill) in crests::named().into_iter().chain(crests::large()) {
-        function = function.timed_on(
-            format!("row_list {name}"),
-            move |_| vec![Timed::new(&fill, owed::row_list_need)],
-            |t| row_list(&t.rings, t.rule, &t.params),
-            Timed::row_list,
-        );
-    }
-    function
+fn timed_row_list(function: Function) -> Function {
+    let large = crests::large().into_iter();
+    let large = large.map(|(name, fill)| (name.into(), fill));
+    let cases = named().into_iter().chain(large).collect();
+    timed_listing(function, cases, owed::row_list_need, ours::row_list)
 }
 
 /// How many of each function the replay list has.

@@ -4,14 +4,78 @@ use super::geom::outline_call;
 use super::records::{self, List};
 use super::{Function, Operands, Outcome, UNTOUCHED, WrittenLines, hex, list, no_tie, simplicity};
 use crate::expect::{self, DONE, LAYOUT, LEN, NUMBER, ROOM, SETTING, SPACING, WORK};
-use crate::inputs::{badges, numbers::setting, outlines::Outline};
+use crate::inputs::{badges, crests, numbers::setting, outlines::Outline};
 use crate::ours::patterns::{self as ours, Lent};
 use crate::rng::Rng;
+use std::cell::RefCell;
 use zigzag::geom::{FillRule, Polyline};
 use zigzag::patterns;
 
 pub fn functions() -> Vec<Function> {
-    vec![Function::new("meander", make, owed, gave, no_tie).usually(2_000)]
+    let mut function = Function::new("meander", make, owed, gave, no_tie).usually(2_000);
+    for (name, fill) in crests::named().into_iter().skip(1) {
+        function = function.timed_on(
+            format!("meander {name}"),
+            move |_| vec![Timed::new(&fill.outline, fill.rule())],
+            |t| {
+                patterns::meander(
+                    &t.rings,
+                    t.given.rule,
+                    t.given.spacing,
+                    t.given.len,
+                    t.given.seed,
+                )
+            },
+            Timed::ours,
+        );
+    }
+    vec![function]
+}
+
+/// A background with 2 mm between its lines, beside the original's own `meander`.
+struct Timed {
+    given: Meander,
+    rings: Vec<Polyline>,
+    out: RefCell<Vec<f64>>,
+    wholes: RefCell<[Vec<u64>; 2]>,
+}
+
+impl Timed {
+    fn new(outline: &Outline, rule: FillRule) -> Timed {
+        let (spacing, len, seed) = (20.0, 25.0, 7);
+        let made = lines(outline, rule, spacing, len, seed);
+        let given = Meander {
+            outline: outline.clone(),
+            rule,
+            spacing,
+            len,
+            seed,
+            floats: 2 * made.concat().len(),
+            stops: made.len(),
+            wholes: need(outline, spacing, len).1,
+        };
+        Timed {
+            rings: outline.rings(),
+            out: RefCell::new(vec![0.0; given.floats]),
+            wholes: RefCell::new([given.stops, given.wholes].map(|n| vec![0; n])),
+            given,
+        }
+    }
+
+    fn ours(&self) -> u64 {
+        let [stops, wholes] = &mut *self.wholes.borrow_mut();
+        let (mut lines, mut points) = (0, 0);
+        let lent = Lent {
+            out: &mut self.out.borrow_mut(),
+            stops,
+            lines: &mut lines,
+            points: &mut points,
+        };
+        let m = &self.given;
+        let answer = ours::meander(&m.outline, m.rule, m.spacing, m.len, m.seed, lent, wholes);
+        assert_eq!(answer, DONE);
+        points
+    }
 }
 
 /// The largest grid that is walked.

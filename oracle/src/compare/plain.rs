@@ -3,26 +3,35 @@
 //! engine's own need.
 
 use super::Function;
-use super::fill::{function, listed_left, sample, sewn_left};
+use super::fill::{
+    function, listed_left, named, sample, sewn_left, timed_listing, timed_sewing,
+};
 use super::records::List;
 use crate::ours::fill as ours;
 use crate::owed::fill as owed;
 
 pub fn functions() -> Vec<Function> {
+    let sew = function(
+        "plain_tatami",
+        owed::plain_tatami_need,
+        4,
+        owed::plain_tatami,
+        |f, words| sewn_left(f, words, ours::plain_tatami),
+    );
+    let list = function(
+        "plain_row_list",
+        owed::plain_row_list_need,
+        5,
+        owed::plain_row_list,
+        |f, words| listed_left(f, words, ours::plain_row_list),
+    );
     vec![
-        function(
-            "plain_tatami",
-            owed::plain_tatami_need,
-            4,
-            owed::plain_tatami,
-            |f, words| sewn_left(f, words, ours::plain_tatami),
-        ),
-        function(
-            "plain_row_list",
+        timed_sewing(sew, named(), owed::plain_tatami_need, ours::plain_tatami),
+        timed_listing(
+            list,
+            named(),
             owed::plain_row_list_need,
-            5,
-            owed::plain_row_list,
-            |f, words| listed_left(f, words, ours::plain_row_list),
+            ours::plain_row_list,
         ),
     ]
 }

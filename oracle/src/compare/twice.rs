@@ -1,8 +1,9 @@
 //! Two fills over one table (request [6]).
 
-use super::fill::{EQUAL_CROSSINGS, bits, floats, lent, replayed};
+use super::fill::{EQUAL_CROSSINGS, bits, floats, lent, named, replayed};
 use super::records::{self, List};
 use super::{Function, Operands, Tie, list, simplicity};
+use crate::expect::DONE;
 use crate::inputs::boundaries::boundaries;
 use crate::inputs::fills::{self, Fill, lend, ways};
 use crate::inputs::outlines::block;
@@ -10,6 +11,9 @@ use crate::ours::fill as ours;
 use crate::owed::fill::{self as owed, Equal};
 use crate::owed::{Left, MARK, fresh};
 use crate::rng::Rng;
+use std::cell::RefCell;
+use zigzag::fill::tatami;
+use zigzag::geom::Polyline;
 
 /// The table's two slices, and four for each fill.
 const SLICES: usize = 10;
@@ -58,14 +62,83 @@ pub fn function() -> Function {
             (EQUAL_CROSSINGS, owed)
         })
     };
-    Function::new(
+    let mut function = Function::new(
         "tatami_twice",
         |rng, n| make(rng, n as usize),
         |c: &Call| owed::tatami_twice(&c.first, &c.second, &c.lent, Equal::Original),
         twice_left,
         tie,
     )
-    .usually(20_000)
+    .usually(20_000);
+    for (name, fill) in named() {
+        function = function.timed_on(
+            format!("tatami_twice {name}"),
+            move |_| vec![Timed::new(&fill)],
+            Timed::rust,
+            Timed::ours,
+        );
+    }
+    function
+}
+
+/// A fill and one beneath it with rows five times as far apart, lent exactly what they need. The original has no call
+/// for two, so it fills twice.
+struct Timed {
+    fills: [Fill; 2],
+    rings: Vec<Polyline>,
+    floats: RefCell<[Vec<f64>; 5]>,
+    wholes: RefCell<[Vec<u64>; 5]>,
+}
+
+impl Timed {
+    fn new(fill: &Fill) -> Timed {
+        let beneath = Fill {
+            spacing: 5.0 * fill.spacing,
+            ..fill.clone()
+        };
+        let need = owed::twice_need(fill, &beneath);
+        let slices = |at: [usize; 5]| at.map(|k| need[k]);
+        Timed {
+            rings: fill.outline.rings(),
+            floats: RefCell::new(slices([0, 2, 4, 6, 8]).map(|n| vec![0.0; n])),
+            wholes: RefCell::new(slices([1, 3, 5, 7, 9]).map(|n| vec![0; n])),
+            fills: [fill.clone(), beneath],
+        }
+    }
+
+    fn rust(&self) -> [Vec<Polyline>; 2] {
+        let sew = |f: &Fill| tatami(&self.rings, f.rule(), &f.params());
+        [sew(&self.fills[0]), sew(&self.fills[1])]
+    }
+
+    fn ours(&self) -> [u64; 2] {
+        let [table, work, points, work2, points2] = &mut *self.floats.borrow_mut();
+        let [places, wholes, ends, wholes2, ends2] = &mut *self.wholes.borrow_mut();
+        let ([mut sections, mut sections2], [mut count, mut count2]) = ([0; 2], [0; 2]);
+        let lend = |floats, wholes| ours::Work { floats, wholes };
+        let answers = ours::tatami_twice(
+            &self.fills[0],
+            &self.fills[1],
+            lend(table, places),
+            [lend(work, wholes), lend(work2, wholes2)],
+            [
+                ours::Sewn {
+                    points,
+                    section_ends: ends,
+                    sections: &mut sections,
+                    count: &mut count,
+                },
+                ours::Sewn {
+                    points: points2,
+                    section_ends: ends2,
+                    sections: &mut sections2,
+                    count: &mut count2,
+                },
+            ],
+        );
+        assert_eq!(answers, [DONE; 2]);
+        [count, count2]
+    }
 }
 
 /// The boundaries first, each beneath any fill and lent in every way, and then any two.

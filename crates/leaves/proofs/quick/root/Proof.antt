@@ -1,17 +1,20 @@
 use mathlib.Core.Path.{sym, ap, subst, _∙_}
-use Prim.Native.Nat.{ℕ, _*_, _^_}
+use mathlib.Core.Bool.{Bool, not}
+use Prim.Native.Nat.{ℕ, _+_, _*_, _/_, _%_, _^_, _≤_}
 use native.Mathlib.Omega.{arith}
 use lib.Dec.{T}
-use lib.Ieee.{binary64, ofBits}
-use lib.Ieee.Bits.{ofBits-toBits}
+use lib.Ieee.{binary64, toBits}
+use lib.Ieee.Bits.{ofBits-toBits, nanBits-above}
+use borrow.Author.Tests.{le-ltb}
 use Rattle.numbers.specs.Root.{nearRoot, root}
+use Rattle.leaves.proofs.Total.{not-nan-itself}
 use Rattle.leaves.proofs.Tried.{pattern-root}
 use borrow.Author.Needs.{needs}
 use Rattle.leaves.proofs.quick.root.Statement.{statement}
 use Rattle.leaves.proofs.quick.root.Tie as tie
 
-to-bits-requires : tie.Need-to-bits-requires
-to-bits-requires c κs = search needs
+float-to-bits-b : tie.Need-float-to-bits-b
+float-to-bits-b c = not-nan-itself (c .before .args .x) (c .if1 .taken)
 
 add-evened : tie.Need-add-evened
 add-evened c = search needs
@@ -28,26 +31,32 @@ mul-k c = search needs
 guess-requires : tie.Need-guess-requires
 guess-requires c κs = search needs
 
-to-bits-requires-2 : tie.Need-to-bits-requires-2
-to-bits-requires-2 c κs = search needs
+float-to-bits-tried : tie.Need-float-to-bits-tried
+float-to-bits-tried c = not-nan-itself (c .before .guess .result) (c .if4 .taken)
+
+add-tried : tie.Need-add-tried
+add-tried c = search needs
 
 tried-requires : tie.Need-tried-requires
 tried-requires c κs = search needs
 
-add-of-bits : tie.Need-add-of-bits
-add-of-bits c = omega (arith, c .before .tried .ensures .0)
+add-result : tie.Need-add-result
+add-result c = omega (arith, c .before .tried .ensures .0)
 
-of-bits-requires : tie.Need-of-bits-requires
-of-bits-requires c κs = search needs
+float-from-bits-result : tie.Need-float-from-bits-result
+float-from-bits-result c =
+    let b = toBits binary64 (c .before .before .before .before .before .before .before .before .args .x) in
+    let r = (b / 2 ^ 52 + 1021) / 2 * 2 ^ 52 + c .before .tried .result in
+    let below : r % 2 ^ 63 ≤ 2047 * 2 ^ 52 = omega (arith, c .before .tried .ensures .0, c .before .before .before .before .before .if3 .taken) in
+    subst (λ (t : Bool). T (not t)) (sym (nanBits-above binary64 r ∙ le-ltb (2047 * 2 ^ 52) (r % 2 ^ 63) below)) tt
 
 returns : tie.Need-returns
 returns c =
-    let at = c .before .before .before .before .before .before .before .before .before in
-    let b = at .to-bits .result in
-    let near = c .before .before .tried .ensures .1 (c .before .if4 .taken) in
-    c .of-bits .ensures
-    ∙ pattern-root b (c .before .before .tried .result) (c .before .before .before .before .before .before .before .before .if1 .taken) (c .before .before .before .before .before .before .before .if2 .taken) (near ∙ ap (λ (w : ℕ). nearRoot 53 (w * 2 ^ 52)) (c .before .before .before .before .before .before .evened .ensures .0))
-    ∙ ap root (ap (ofBits binary64) (at .to-bits .ensures) ∙ ofBits-toBits binary64 (at .before .args .x) (subst T (sym (at .before .good .0 .1)) tt))
+    let start = c .before .before .before .before .before .before .before .before in
+    let x = start .args .x in
+    let near = c .before .tried .ensures .1 (c .if5 .taken) in
+    pattern-root (toBits binary64 x) (c .before .tried .result) (c .before .before .before .before .before .before .if2 .taken) (c .before .before .before .before .before .if3 .taken) (near ∙ ap (λ (w : ℕ). nearRoot 53 (w * 2 ^ 52)) (c .before .before .before .before .evened .ensures .0))
+    ∙ ap root (ofBits-toBits binary64 x (subst T (sym (start .good .0 .1)) tt))
 
 root-requires : tie.Need-root-requires
 root-requires c κs = search needs
@@ -59,16 +68,17 @@ pub root-spec : {M : Type 1} → statement M
 root-spec =
     tie.close
     (tie.spec
-    to-bits-requires
+    float-to-bits-b
     add-evened
     evened-requires
     add-k
     mul-k
     guess-requires
-    to-bits-requires-2
+    float-to-bits-tried
+    add-tried
     tried-requires
-    add-of-bits
-    of-bits-requires
+    add-result
+    float-from-bits-result
     returns
     root-requires
     returns-2)
