@@ -3,9 +3,7 @@
 //! engine's own need.
 
 use super::Function;
-use super::fill::{
-    function, listed_left, named, sample, sewn_left, timed_listing, timed_sewing,
-};
+use super::fill::{function, listed_left, named, sample, sewn_left, timed_listing, timed_sewing};
 use super::records::List;
 use crate::ours::fill as ours;
 use crate::owed::fill as owed;
