@@ -67,7 +67,7 @@ fn run(words: &[String]) -> Result<bool, String> {
         }
         (Some("replay"), Some(folder)) => {
             let list = compare::replay();
-            for (name, text) in [("stdin", list.calls), ("stdout", list.answers)] {
+            for (name, text) in [("calls", list.calls), ("answers", list.answers)] {
                 let path = Path::new(folder).join(name);
                 std::fs::write(&path, text).map_err(|e| format!("{}: {e}", path.display()))?;
             }

@@ -1,4 +1,4 @@
--- Any two outcomes that a C entry's contract allows are equal: one theorem for each entry of `exports`. Assumes nothing.
+-- Any two outcomes that a C entry's contract allows are equal: one theorem for each entry of `exports`, `exports_fill` and `exports_other`. Assumes nothing.
 use mathlib.Core.Path.{refl}
 use Rattle.claims.specs.OneOutcome.{One, both, one}
 use Rattle.exports.proofs.number.beahcerot_root
@@ -34,31 +34,31 @@ use Rattle.exports.proofs.shape.beahcerot_segment_inside
 use Rattle.exports.proofs.line.beahcerot_polyline_length
 use Rattle.exports.proofs.line.beahcerot_resample_keep_corners
 use Rattle.exports.proofs.line.beahcerot_running
-use Rattle.exports.proofs.border.beahcerot_split_long
-use Rattle.exports.proofs.border.beahcerot_s_stitch
-use Rattle.exports.proofs.border.beahcerot_pairs
-use Rattle.exports.proofs.border.beahcerot_pairs_room
-use Rattle.exports.proofs.border.beahcerot_column
-use Rattle.exports.proofs.border.beahcerot_underlay
-use Rattle.exports.proofs.border.beahcerot_top
-use Rattle.exports.proofs.border.beahcerot_column_room
-use Rattle.exports.proofs.pattern.beahcerot_bounds
-use Rattle.exports.proofs.pattern.beahcerot_clip_inside
-use Rattle.exports.proofs.pattern.beahcerot_cross_stitch
-use Rattle.exports.proofs.pattern.beahcerot_meander
-use Rattle.exports.proofs.fill.beahcerot_tatami
-use Rattle.exports.proofs.beneath.beahcerot_tatami_twice
-use Rattle.exports.proofs.fill.beahcerot_row_list
-use Rattle.exports.proofs.bench.beahcerot_plain_tatami
-use Rattle.exports.proofs.bench.beahcerot_plain_row_list
-use Rattle.exports.proofs.fill.beahcerot_fill_room
-use Rattle.exports.proofs.fill.beahcerot_fill_job
-use Rattle.exports.proofs.machine.beahcerot_dst
-use Rattle.exports.proofs.machine.beahcerot_dst_read
-use Rattle.exports.proofs.mending.beahcerot_salvage
-use Rattle.exports.proofs.sheets.beahcerot_book_store
-use Rattle.exports.proofs.sheets.beahcerot_book_fetch
-use Rattle.exports.proofs.sheets.beahcerot_book_remove
+use Rattle.exports_other.proofs.border.beahcerot_split_long
+use Rattle.exports_other.proofs.border.beahcerot_s_stitch
+use Rattle.exports_other.proofs.border.beahcerot_pairs
+use Rattle.exports_other.proofs.border.beahcerot_pairs_room
+use Rattle.exports_other.proofs.border.beahcerot_column
+use Rattle.exports_other.proofs.border.beahcerot_underlay
+use Rattle.exports_other.proofs.border.beahcerot_top
+use Rattle.exports_other.proofs.border.beahcerot_column_room
+use Rattle.exports_other.proofs.pattern.beahcerot_bounds
+use Rattle.exports_other.proofs.pattern.beahcerot_clip_inside
+use Rattle.exports_other.proofs.pattern.beahcerot_cross_stitch
+use Rattle.exports_other.proofs.pattern.beahcerot_meander
+use Rattle.exports_fill.proofs.fill.beahcerot_tatami
+use Rattle.exports_fill.proofs.beneath.beahcerot_tatami_twice
+use Rattle.exports_fill.proofs.fill.beahcerot_row_list
+use Rattle.exports_fill.proofs.bench.beahcerot_plain_tatami
+use Rattle.exports_fill.proofs.bench.beahcerot_plain_row_list
+use Rattle.exports_fill.proofs.fill.beahcerot_fill_room
+use Rattle.exports_fill.proofs.fill.beahcerot_fill_job
+use Rattle.exports_other.proofs.machine.beahcerot_dst
+use Rattle.exports_other.proofs.machine.beahcerot_dst_read
+use Rattle.exports_other.proofs.mending.beahcerot_salvage
+use Rattle.exports_other.proofs.sheets.beahcerot_book_store
+use Rattle.exports_other.proofs.sheets.beahcerot_book_fetch
+use Rattle.exports_other.proofs.sheets.beahcerot_book_remove
 
 -- ---- the numbers
 

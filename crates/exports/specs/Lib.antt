@@ -1,6 +1,2 @@
 -- What the contracts of `exports` cite.
 pub mod Stored
-pub mod Fills
-pub mod Borders
-pub mod Mendings
-pub mod Sheets

@@ -1,13 +1,5 @@
-// Thin C entries over the proved library, for the comparison with the Rust and for callers in Rust and C.
+// Thin C entries over the proved library, for the comparison with the Rust and for callers in Rust and C: numbers, points, outlines and lines.
 // A slice is a pointer and a length; a rule is 0 for NonZero and any other number for EvenOdd; a truth is 1 or 0.
-pub mod bench;
-pub mod beneath;
-pub mod border;
-pub mod fill;
 pub mod line;
-pub mod machine;
-pub mod mending;
 pub mod number;
-pub mod pattern;
 pub mod shape;
-pub mod sheets;

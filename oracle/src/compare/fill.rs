@@ -366,30 +366,35 @@ const REPLAYED: usize = 75;
 
 /// The replay list of the fill.
 pub fn replay(list: &mut List) {
-    let mut sample = |number, name: &str, need: Need, slices, owed: Owed| {
-        let first = shapes().into_iter().map(|fill| Call {
-            lent: need(&fill).unwrap_or(vec![8; slices]),
-            fill,
-        });
-        list.sample(
-            name,
-            REPLAYED,
-            first.collect(),
-            |rng| make(rng, usize::MAX, need, slices),
-            |c| {
-                let call = replayed(number, &c.fill, &c.lent)?;
-                let owed = records::left(&owed(&c.fill, &c.lent, Equal::Original));
-                // Of the fills with no piece only those of four corners.
-                let bare = owed.words[..2] == [DONE, 0] && c.fill.outline.corners.len() != 8;
-                (!bare).then_some((call, owed))
-            },
-        );
-    };
-    sample(0x50, "tatami", owed::tatami_need, 4, owed::tatami);
-    sample(0x51, "row_list", owed::row_list_need, 5, owed::row_list);
+    let row_list = owed::row_list_need;
+    sample(list, 0x50, "tatami", owed::tatami_need, 4, owed::tatami);
+    sample(list, 0x51, "row_list", row_list, 5, owed::row_list);
     list.sample("fill_room", 44, shapes(), fills::any, |f| {
         let owed = records::Owed::of(owed::fill_room(f).to_vec());
         Some((replayed(0x52, f, &[])?, owed))
+    });
+}
+
+/// Fills of one call: the shapes first, each lent its need.
+pub(super) fn sample(
+    list: &mut List,
+    number: u64,
+    name: &str,
+    need: Need,
+    slices: usize,
+    owed: Owed,
+) {
+    let first = shapes().into_iter().map(|fill| Call {
+        lent: need(&fill).unwrap_or(vec![8; slices]),
+        fill,
+    });
+    let any = |rng: &mut Rng| make(rng, usize::MAX, need, slices);
+    list.sample(name, REPLAYED, first.collect(), any, |c| {
+        let call = replayed(number, &c.fill, &c.lent)?;
+        let owed = records::left(&owed(&c.fill, &c.lent, Equal::Original));
+        // Of the fills with no piece only those of four corners.
+        let bare = owed.words[..2] == [DONE, 0] && c.fill.outline.corners.len() != 8;
+        (!bare).then_some((call, owed))
     });
 }
 

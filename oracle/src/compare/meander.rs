@@ -1,5 +1,7 @@
 //! The meander, against the source's own code with request [7]'s points: lines and counts, and the working slice.
 
+use super::geom::outline_call;
+use super::records::{self, List};
 use super::{Function, Operands, Outcome, UNTOUCHED, WrittenLines, hex, list, no_tie, simplicity};
 use crate::expect::{self, DONE, LAYOUT, LEN, NUMBER, ROOM, SETTING, SPACING, WORK};
 use crate::inputs::{badges, crests, numbers::setting, outlines::Outline};
@@ -170,29 +172,34 @@ fn near(rng: &mut Rng, need: usize, part: usize) -> usize {
     }
 }
 
-/// The largest grid that is walked, 800 by 500 points, and one of 500 more: lent what they need, and nothing to work in.
-fn at_the_limit(n: u64) -> Meander {
-    let right = if n % 2 == 0 { 799.0 } else { 800.0 };
+/// A block, lent what it needs.
+fn block(right: f64, bottom: f64, spacing: f64, len: f64, seed: u64) -> Meander {
     let outline = Outline {
-        corners: vec![0.0, 0.0, right, 0.0, right, 499.0, 0.0, 499.0],
+        corners: vec![0.0, 0.0, right, 0.0, right, bottom, 0.0, bottom],
         ends: vec![4],
     };
-    let (rule, spacing, len, seed) = (FillRule::NonZero, 1.0, 5.0, 7);
+    let rule = FillRule::NonZero;
     let made = lines(&outline, rule, spacing, len, seed);
     Meander {
         floats: 2 * made.concat().len(),
         stops: made.len(),
-        wholes: if n < 2 {
-            need(&outline, spacing, len).1
-        } else {
-            0
-        },
+        wholes: need(&outline, spacing, len).1,
         outline,
         rule,
         spacing,
         len,
         seed,
     }
+}
+
+/// The largest grid that is walked, 800 by 500 points, and one of 500 more: lent what they need, and nothing to work in.
+fn at_the_limit(n: u64) -> Meander {
+    let right = if n % 2 == 0 { 799.0 } else { 800.0 };
+    let mut m = block(right, 499.0, 1.0, 5.0, 7);
+    if n >= 2 {
+        m.wholes = 0;
+    }
+    m
 }
 
 fn make(rng: &mut Rng, n: u64) -> Meander {
@@ -305,4 +312,39 @@ fn gave(m: &Meander) -> Wandered {
         stops,
     };
     Wandered { lines, wholes }
+}
+
+/// Small blocks by several seeds, and one that is lent a word less in each slice.
+fn blocks() -> Vec<Meander> {
+    let seeds = [0, 1, 7, u64::MAX];
+    let sizes = [(10.0, 10.0, 5.0, 3.0), (21.0, 13.0, 5.0, 5.0)];
+    let each =
+        |(right, bottom, spacing, len)| seeds.map(|seed| block(right, bottom, spacing, len, seed));
+    let mut list = sizes.map(each).into_iter().flatten().collect::<Vec<_>>();
+    for less in [[1, 0, 0], [0, 1, 0], [0, 0, 1]] {
+        let mut m = block(10.0, 10.0, 5.0, 3.0, 7);
+        m.floats -= less[0];
+        m.stops -= less[1];
+        m.wholes -= less[2];
+        list.push(m);
+    }
+    list
+}
+
+/// The replay list of the meander.
+pub fn replay(list: &mut List) {
+    let any = |rng: &mut Rng| make(rng, u64::MAX);
+    list.sample("meander", 60, blocks(), any, |m| {
+        let small = m.floats <= 256 && m.stops <= 32 && m.wholes <= 256;
+        small.then_some(())?;
+        let mut call = outline_call(0x72, &m.outline, m.rule, &[m.spacing, m.len])?;
+        call.wholes.push(m.seed);
+        call.lent = vec![m.floats, m.stops, m.wholes];
+        let Wandered { lines, wholes } = owed(m);
+        let mut owed = records::lines(&lines)?;
+        owed.slices.push(wholes);
+        // Of those with no line only the empty outline.
+        let bare = owed.words == [DONE, 0, 0] && !m.outline.corners.is_empty();
+        (!bare).then_some((call, owed))
+    });
 }

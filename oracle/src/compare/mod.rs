@@ -564,11 +564,15 @@ pub fn replay() -> List {
         geom::replay,
         stroke::replay,
         fill::replay,
+        plain::replay,
+        twice::replay,
         jobs::replay,
         satin::replay,
         patterns::replay,
+        meander::replay,
         dst::replay,
         dst_read::replay,
+        salvage::replay,
         book::replay,
     ] {
         group(&mut list);

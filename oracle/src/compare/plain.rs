@@ -3,7 +3,8 @@
 //! engine's own need.
 
 use super::Function;
-use super::fill::{function, listed_left, named, sewn_left, timed_listing, timed_sewing};
+use super::fill::{function, listed_left, named, sample, sewn_left, timed_listing, timed_sewing};
+use super::records::List;
 use crate::ours::fill as ours;
 use crate::owed::fill as owed;
 
@@ -31,4 +32,11 @@ pub fn functions() -> Vec<Function> {
             ours::plain_row_list,
         ),
     ]
+}
+
+/// The replay list of the plain engine.
+pub fn replay(list: &mut List) {
+    let (sew, rows) = (owed::plain_tatami_need, owed::plain_row_list_need);
+    sample(list, 0x53, "plain_tatami", sew, 4, owed::plain_tatami);
+    sample(list, 0x54, "plain_row_list", rows, 5, owed::plain_row_list);
 }

@@ -15,9 +15,6 @@ const REFUSED: usize = 4;
 const ROOM: u64 = 256;
 const WORDS: usize = 400;
 
-/// How many bytes the program reads at a time.
-const BLOCK: usize = 65_536;
-
 #[derive(Default)]
 pub struct Call {
     pub function: u64,
@@ -57,23 +54,8 @@ impl List {
     /// A name stands in both files.
     pub fn name(&mut self, name: &str) {
         let line = format!("# {name}\n");
-        self.push(&line, &line);
-    }
-
-    /// A line of each file. The program reads the calls in blocks, so none may
-    /// cross a block's end: a name of dots fills what is left of a block.
-    fn push(&mut self, call: &str, answer: &str) {
-        let left = BLOCK - self.calls.len() % BLOCK;
-        if call.len() > left {
-            let dots = match left {
-                1 => "\n".to_string(),
-                _ => format!("#{}\n", ".".repeat(left - 2)),
-            };
-            self.calls += &dots;
-            self.answers += &dots;
-        }
-        self.calls += call;
-        self.answers += answer;
+        self.calls += &line;
+        self.answers += &line;
     }
 
     /// False where the list has this call already, or it is too large for it.
@@ -84,7 +66,8 @@ impl List {
         if large || !self.seen.insert(line.clone()) {
             return false;
         }
-        self.push(&line, &answer_line(owed));
+        self.calls += &line;
+        self.answers += &answer_line(owed);
         true
     }
 
@@ -125,7 +108,7 @@ impl List {
 }
 
 fn call_line(call: &Call) -> String {
-    let mut words = vec![0; 16];
+    let mut words = vec![0; 16.max(10 + call.lent.len())];
     words[0] = call.function;
     for (at, x) in call.floats.iter().enumerate() {
         words[1 + at] = x.to_bits();

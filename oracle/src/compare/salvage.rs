@@ -1,5 +1,6 @@
 //! Broken outlines: stray corners dropped and told.
 
+use super::records::{Call, List, Owed};
 use super::{Function, Operands, Outcome, UNTOUCHED, list, no_tie, simplicity};
 use crate::expect::{self, DONE, LAYOUT, ROOM};
 use crate::inputs::{
@@ -266,4 +267,26 @@ fn fault(rng: &mut Rng, rings: &mut [Polyline]) {
         4 => ring[at].y = odd(rng),
         _ => ring[at].x = 0.0 * p.x,
     }
+}
+
+/// The replay list of broken outlines. A NaN may stand here: it is dropped.
+pub fn replay(list: &mut List) {
+    let any = |rng: &mut Rng| make(rng, u64::MAX);
+    list.sample("salvage", 75, vec![], any, |b| {
+        let Outline { corners, ends } = &b.outline;
+        let small = corners.len() <= 24 && ends.len() <= 6 && b.rooms.iter().all(|&n| n <= 64);
+        let call = Call {
+            function: 0x34,
+            lent: b.rooms.to_vec(),
+            lists: vec![corners.iter().map(|x| x.to_bits()).collect(), ends.clone()],
+            ..Call::default()
+        };
+        let left = owed(b);
+        let slices = [&left.corners].into_iter().chain(&left.wholes);
+        let owed = Owed {
+            words: [vec![left.answer], left.counts.to_vec()].concat(),
+            slices: slices.map(|s| s[GUARD..s.len() - GUARD].to_vec()).collect(),
+        };
+        small.then_some((call, owed))
+    });
 }

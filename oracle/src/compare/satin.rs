@@ -517,7 +517,7 @@ impl<I: Clone, R> Timed<I, R> {
 /// How many of each function the replay list has.
 const REPLAYED: usize = 60;
 
-/// The replay list: lines split and bent, columns and their rooms.
+/// The replay list: lines split and bent, columns, their rooms and their halves.
 pub fn replay(list: &mut List) {
     let path = |number| move |p: &Path, lent: &[usize]| path_call(number, p, lent);
     replay_calls(list, split_calls(), path(0x43));
@@ -534,6 +534,12 @@ pub fn replay(list: &mut List) {
     let rooms = [boundaries::columns(), boundaries::large_columns()].concat();
     list.sample("column_room", REPLAYED, few(rooms), rails::column, |c| {
         Some((column_call(0x63, c, &[])?, enough(&owed::column_room(c))))
+    });
+    replay_calls(list, underlay_calls(), |c, lent| column_call(0x64, c, lent));
+    replay_calls(list, top_calls(), |t, lent| {
+        let mut call = column_call(0x65, &t.column, lent)?;
+        call.lists.push(vec![t.far.into()]);
+        Some(call)
     });
 }
 

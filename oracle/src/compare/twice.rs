@@ -1,10 +1,12 @@
 //! Two fills over one table (request [6]).
 
-use super::fill::{EQUAL_CROSSINGS, bits, floats, lent, named};
+use super::fill::{EQUAL_CROSSINGS, bits, floats, lent, named, replayed};
+use super::records::{self, List};
 use super::{Function, Operands, Tie, list, simplicity};
 use crate::expect::DONE;
 use crate::inputs::boundaries::boundaries;
 use crate::inputs::fills::{self, Fill, lend, ways};
+use crate::inputs::outlines::block;
 use crate::ours::fill as ours;
 use crate::owed::fill::{self as owed, Equal};
 use crate::owed::{Left, MARK, fresh};
@@ -220,4 +222,43 @@ fn twice_left(c: &Call) -> Left {
             ends2,
         ],
     }
+}
+
+/// A fill beneath another, lent in every way; then one of the two refused for its spacing or its rows.
+fn layered() -> Vec<Call> {
+    let spaced = |spacing| Fill {
+        spacing,
+        ..Fill::k1()
+    };
+    let tall = |spacing| Fill {
+        spacing,
+        ..Fill::new(&[block(0.0, 0.0, 10.0, 4000.0)])
+    };
+    let call = |way, first: Fill, second: Fill| Call {
+        lent: lend(way, &owed::twice_need(&first, &second)),
+        first,
+        second,
+    };
+    let mut list: Vec<Call> = (0..ways(SLICES))
+        .map(|way| call(way, spaced(4.0), spaced(2.0)))
+        .collect();
+    list.push(call(0, spaced(0.49), spaced(4.0)));
+    list.push(call(0, spaced(4.0), spaced(0.49)));
+    list.push(call(0, tall(0.5), tall(800.0)));
+    list.push(call(0, tall(800.0), tall(0.5)));
+    list
+}
+
+/// The replay list of two fills; the second's own settings are a list.
+pub fn replay(list: &mut List) {
+    let any = |rng: &mut Rng| make(rng, usize::MAX);
+    list.sample("tatami_twice", 90, layered(), any, |c| {
+        let g = &c.second;
+        let mut own = records::bits(&[g.spacing, g.len, g.inset, g.pull])?;
+        own.extend([g.stagger, g.bottom_up.into()]);
+        let mut call = replayed(0x55, &c.first, &c.lent)?;
+        call.lists.push(own);
+        let owed = owed::tatami_twice(&c.first, g, &c.lent, Equal::Original);
+        (!owed::tied(g)).then_some((call, records::left(&owed)))
+    });
 }

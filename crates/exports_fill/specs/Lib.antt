@@ -1,0 +1,2 @@
+-- What the contracts of `exports_fill` cite.
+pub mod Fills
