@@ -26,7 +26,7 @@ use job::{LAYOUT, LENT, job, job2, relength};
 use program::{check, end, program, run, run_in_pieces, start, wanted_of};
 use rng::Rng;
 use std::fs::File;
-use std::io::{Read, Seek, Write};
+use std::io::{Seek, Write};
 use std::process::Stdio;
 use std::time::Duration;
 use zigzag::geom::P;
@@ -493,16 +493,18 @@ fn generated_fills() {
     assert!(met[0] > 200, "answers met: {met:?}");
 }
 
-/// The other examples that stand beside the program.
+/// The examples: the listing that is kept beside each job is what is owed, and what
+/// the program prints.
 #[test]
 fn the_examples() {
-    let Some(program) = program() else { return };
     let folder = concat!(env!("CARGO_MANIFEST_DIR"), "/../examples");
     for entry in std::fs::read_dir(folder).unwrap() {
         let path = entry.unwrap().path();
         if path.extension().is_some_and(|e| e == "job") {
-            let mut bytes = Vec::new();
-            File::open(path).unwrap().read_to_end(&mut bytes).unwrap();
+            let bytes = std::fs::read(&path).unwrap();
+            let kept = std::fs::read_to_string(path.with_extension("out")).unwrap();
+            assert_eq!(wanted_of(&bytes), kept, "{}", path.display());
+            let Some(program) = program() else { return };
             check(&program, &bytes);
         }
     }
