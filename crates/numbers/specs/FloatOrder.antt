@@ -120,6 +120,10 @@ finite_number (fin s m e) h = tt
 -- what lies between finite numbers is finite
 pub between_finite : (lo x hi : Float) → T (finite lo) → T (finite hi) → T (le lo x) → T (le x hi) → T (finite x)
 unfolding le lt eq finite
+between_finite nan _ hi f g h k = elim f [ ]
+between_finite (inf _) _ hi f g h k = elim f [ ]
+between_finite (fin s m e) (inf false) nan f g h k = elim g [ ]
+between_finite (fin s m e) (inf false) (inf _) f g h k = elim g [ ]
 between_finite (fin s m e) nan hi f g h k = absurd h
 between_finite (fin s m e) (inf true) hi f g h k = absurd h
 between_finite (fin s m e) (inf false) (fin s' m' e') f g h k = absurd k

@@ -30,6 +30,7 @@ module _ {ℓ κ} {A : Type ℓ} (P : A → Type κ) where
   all_at (a ∷ l) (suc i) z g h = all_at l i z (omega arith) h.1
 
   pub all_mem : {a : A} (l : List A) → All P l → Memᴰ a l → P a
+  all_mem [] h m = elim m [ ]
   all_mem (b ∷ l) h (Memᴰ.head e) = subst P (sym e) h.0
   all_mem (b ∷ l) h (Memᴰ.tail m) = all_mem l h.1 m
 

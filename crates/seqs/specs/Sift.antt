@@ -26,9 +26,11 @@ module _ {ℓ} {A : Type ℓ} (p : A → Bool) where
   sift_pass (a ∷ l) = elim (either (p a)) [ inl e ↦ rw e (e, sift_pass l) | inr e ↦ rw e (sift_pass l) ]
 
   pub sift_from : {a : A} (l : List A) → Memᴰ a (sift p l) → Memᴰ a l
+  sift_from [] m = elim m [ ]
   sift_from (b ∷ l) m = elim (either (p b)) [ inl e ↦ elim (Memᴰ.cases_cons (rw e at m)) [ inl q ↦ Memᴰ.head q | inr k ↦ Memᴰ.tail (sift_from l k) ] | inr e ↦ Memᴰ.tail (sift_from l (rw e at m)) ]
 
   pub sift_in : {a : A} (l : List A) → Memᴰ a l → p a ≡ true → Memᴰ a (sift p l)
+  sift_in [] m t = elim m [ ]
   sift_in (b ∷ l) (Memᴰ.head q) t = rw (sym (ap p q) ∙ t) (Memᴰ.head q)
   sift_in (b ∷ l) (Memᴰ.tail k) t = elim (either (p b)) [ inl e ↦ rw e (Memᴰ.tail (sift_in l k t)) | inr e ↦ rw e (sift_in l k t) ]
 
