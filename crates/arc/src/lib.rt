@@ -1,4 +1,5 @@
 // A rail by its running lengths, the point at a length along it, and the walker that keeps the rail's corners: satin.rs's `Arc`.
+#![tactic(auto)]
 ghost use Rattle.std.specs.Prelude.{◌≡◌, ◌+◌, ◌*◌, ◌<◌, ◌≤◌, length, drop};
 ghost use Rattle.seqs.specs.Slices.{put};
 ghost use Rattle.geom.specs.Outline.{points};
@@ -131,7 +132,7 @@ pub fn at(pts: &[f64], cum: &[f64], s: f64) -> P
 }
 
 // A walker along one rail: it keeps the rail's corners.
-#[derive(Drop)]
+#[derive(Clone, Copy)]
 pub struct Walker<'a> {
     pub pts: &'a [f64],
 }

@@ -9,7 +9,7 @@ use crate::walk::{place, size_at};
 use refusal::{LAYOUT, SETTING};
 
 // A sheet's values, or the number of a refusal.
-#[derive(Drop)]
+#[derive(Clone, Copy)]
 pub enum Fetched {
     Sheet(Values),
     Refused(u64),

@@ -5,7 +5,7 @@ ghost use Rattle.book.specs.Book.{values_of, good_values};
 use jobs::number::{float_at, number_at};
 
 // A cloth's settings.
-#[derive(Drop)]
+#[derive(Clone, Copy)]
 pub struct Values {
     pub spacing: f64,
     pub len: f64,

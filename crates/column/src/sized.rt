@@ -16,7 +16,7 @@ use satin::underlay::runs;
 use satinrules::Satin;
 
 // The passes of the underlay, and how many places each has; none where it isn't sewn.
-#[derive(Drop)]
+#[derive(Clone, Copy)]
 pub struct Under {
     pub run: Pass,
     pub n: usize,
@@ -25,7 +25,7 @@ pub struct Under {
 }
 
 // The passes of a column: the underlay's, and the top's with its places.
-#[derive(Drop)]
+#[derive(Clone, Copy)]
 pub struct Passes {
     pub under: Under,
     pub top: Pass,

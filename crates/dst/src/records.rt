@@ -3,7 +3,7 @@ ghost use Rattle.std.specs.Prelude.{◌≡◌, ◌+◌, ◌<◌, ◌≤◌, leng
 ghost use Rattle.seqs.specs.Slices.{put};
 ghost use Rattle.dst.specs.Records.{plus, minus, lower, third, kind_bits, bytes_of, end_record};
 
-#[derive(Drop)]
+#[derive(Clone, Copy)]
 pub enum Kind {
     Stitch,
     Jump,

@@ -1,4 +1,5 @@
 // DST records to points: request [5].
+#![tactic(auto)]
 ghost use Rattle.std.specs.Prelude.{◌≡◌, length};
 ghost use Rattle.dst_read.specs.Answers.{dst_read, points_left, marks_left};
 
@@ -11,7 +12,7 @@ use names::RECORD;
 use refusal::{DONE, ROOM};
 
 // What the call says: a number of the table, how many points stand at the front of its slices, none after a refusal, and of RECORD the record's number.
-#[derive(Drop)]
+#[derive(Clone, Copy)]
 pub struct Read {
     pub answer: u64,
     pub points: u64,

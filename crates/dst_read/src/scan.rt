@@ -7,7 +7,7 @@ use crate::records::{bad, is_end, wide};
 use refusal::{DONE, SIZE};
 
 // The answer, and the number of the record that it was met at: of DONE, how many stand before the end.
-#[derive(Drop)]
+#[derive(Clone, Copy)]
 pub struct Verdict {
     pub answer: u64,
     pub number: usize,

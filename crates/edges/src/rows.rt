@@ -13,7 +13,7 @@ use leaves::{ceil, floor, larger, of_i64, smaller, to_i64};
 use rules::Settings;
 
 // Top and bottom of the edges met so far, and whether there are any.
-#[derive(Drop)]
+#[derive(Clone, Copy)]
 pub struct Extent {
     pub any: bool,
     pub top: f64,
@@ -21,7 +21,7 @@ pub struct Extent {
 }
 
 // The source's k_lo and k_hi: n rows, or 4,097 where there are more than 4,096.
-#[derive(Drop)]
+#[derive(Clone, Copy)]
 pub struct Rows {
     pub lo: i64,
     pub hi: i64,

@@ -8,7 +8,7 @@ use leaves::magnitude;
 use rules::{Edge, Settings};
 
 // A side as an edge, or dropped.
-#[derive(Drop)]
+#[derive(Clone, Copy)]
 pub enum KeptSide {
     Kept(Edge),
     Dropped,

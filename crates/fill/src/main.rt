@@ -1,5 +1,6 @@
 // The program `fill`: one job from standard input, its points to standard output. All that decides anything is in `desk`
 // and `jobs`; this reads, lends the slices that document 01 names, and prints.
+#![tactic(auto)]
 ghost use Rattle.std.specs.Prelude.{◌≡◌, ◌++◌, ◌≤◌, length, drop, replicate};
 ghost use Rattle.numbers.specs.Num.{zero64};
 ghost use Rattle.layers.specs.Layers.{slices};

@@ -1,4 +1,5 @@
 // Working room that is always enough for a fill, so that no caller has to guess it.
+#![tactic(auto)]
 ghost use Rattle.std.specs.Prelude.{◌≡◌, ◌≤◌};
 ghost use Rattle.fillroom.specs.Room.{room_for, room_of};
 
@@ -7,7 +8,7 @@ use refusal::DONE;
 use rules::Settings;
 
 // One of 1 to 5 and no room, or DONE and how many floats and whole numbers are enough.
-#[derive(Drop)]
+#[derive(Clone, Copy)]
 pub struct Room {
     pub answer: u64,
     pub floats: u64,

@@ -6,7 +6,7 @@ use edges::build;
 use sweep::sweep;
 
 // How many edges and pieces.
-#[derive(Drop)]
+#[derive(Clone, Copy)]
 pub enum Found {
     Short,
     Held(usize, usize),

@@ -12,7 +12,7 @@ use refusal::{LAYOUT, NUMBER, SETTING, SIZE, TURN};
 use rules::Settings;
 
 // One of 1 to 5, or the rows of an accepted fill.
-#[derive(Drop)]
+#[derive(Clone, Copy)]
 pub enum Way {
     Refused(u64),
     Open(Rows),

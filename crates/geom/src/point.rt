@@ -4,7 +4,7 @@ ghost use Rattle.geom.specs.Point.{plus, minus, times, dot, len, dist, norm, per
 
 use leaves::quick::root;
 
-#[derive(Drop)]
+#[derive(Clone, Copy)]
 pub struct P {
     pub x: f64,
     pub y: f64,

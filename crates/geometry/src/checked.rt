@@ -10,21 +10,21 @@ use outlines::FillRule;
 use refusal::{LAYOUT, NUMBER, SETTING, TURN};
 
 // A point.
-#[derive(Drop)]
+#[derive(Clone, Copy)]
 pub enum Spot {
     At(P),
     Refused(u64),
 }
 
 // A winding number.
-#[derive(Drop)]
+#[derive(Clone, Copy)]
 pub enum Wound {
     Times(i64),
     Refused(u64),
 }
 
 // A truth value.
-#[derive(Drop)]
+#[derive(Clone, Copy)]
 pub enum Truth {
     Is(bool),
     Refused(u64),

@@ -1,4 +1,5 @@
 // Document 02's two halves of a column, each a call of its own: the underlay, which tells whether the thread ends at the far end, and the top, which is told.
+#![tactic(auto)]
 ghost use Rattle.std.specs.Prelude.{◌≡◌, length};
 ghost use Rattle.halves.specs.Answers.{underlaid, underlay_said, underlay_output, underlay_work, top_sewn, top_output, top_work};
 
@@ -14,7 +15,7 @@ use satin::slices::zero;
 use satinrules::{Satin, good_satin};
 
 // A refusal, or DONE with how many points were sewn and whether the thread ends at the far end.
-#[derive(Drop)]
+#[derive(Clone, Copy)]
 pub struct Underlaid {
     pub answer: u64,
     pub points: u64,

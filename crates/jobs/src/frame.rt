@@ -13,7 +13,7 @@ pub const HEAD: usize = 60;
 const HEAD2: usize = 97;
 
 // What the rings come to.
-#[derive(Drop)]
+#[derive(Clone, Copy)]
 pub enum Framing {
     Corners(usize),
     Badly,

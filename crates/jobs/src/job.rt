@@ -10,7 +10,7 @@ use refusal::{LAYOUT, ROOM};
 use rules::Settings;
 
 // A job's values; its corners and ring ends stand in the lent slices.
-#[derive(Drop)]
+#[derive(Clone, Copy)]
 pub struct Job {
     pub rule: FillRule,
     pub bottom_up: bool,
@@ -21,7 +21,7 @@ pub struct Job {
 }
 
 // A job, or the number of a refusal.
-#[derive(Drop)]
+#[derive(Clone, Copy)]
 pub enum Parsed {
     Done(Job),
     Refused(u64),

@@ -9,7 +9,7 @@ use refusal::LAYOUT;
 use rules::Settings;
 
 // What is the second fill's own; cosine and sine are the first's.
-#[derive(Drop)]
+#[derive(Clone, Copy)]
 pub struct Second {
     pub bottom_up: bool,
     pub stagger: u64,
@@ -17,7 +17,7 @@ pub struct Second {
 }
 
 // Both fills, of which the first has the outline's counts, or the number of a refusal.
-#[derive(Drop)]
+#[derive(Clone, Copy)]
 pub enum Parsed2 {
     Done(Job, Second),
     Refused(u64),

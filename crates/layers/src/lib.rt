@@ -1,6 +1,7 @@
 // A light fill beneath a dense one (request [6]): one call prepares the edge table and runs both fills over it, each with settings and slices of its own.
 //
 // The table is written while it is prepared and only then: the fills are lent it to be read. `places` is the sweep's scratch, one fill after the other. The table's slices are zero on the way out, as the fills' own working slices are.
+#![tactic(auto)]
 ghost use Rattle.std.specs.Prelude.{◌≡◌};
 ghost use Rattle.tatami.specs.Left.{left};
 ghost use Rattle.layers.specs.Layers.{slices, twice, twice_left};
@@ -18,7 +19,7 @@ use refusal::WORK;
 use tatami::Filled;
 
 // What is a fill's own: `upward` is bottom up.
-#[derive(Drop)]
+#[derive(Clone, Copy)]
 pub struct Layer {
     pub spacing: f64,
     pub len: f64,
@@ -29,7 +30,7 @@ pub struct Layer {
 }
 
 // What both fills say.
-#[derive(Drop)]
+#[derive(Clone, Copy)]
 pub struct Both {
     pub first: Filled,
     pub second: Filled,

@@ -9,7 +9,7 @@ use refusal::{LAYOUT, NUMBER, TURN};
 use rules::Settings;
 
 // One of 1, 2 and 4; a slice that is too short; or how many edges stand.
-#[derive(Drop)]
+#[derive(Clone, Copy)]
 pub enum Table {
     Refused(u64),
     Short,

@@ -11,8 +11,8 @@ use lib.Ieee.Bits.{of_bits-to_bits}
 use Rattle.numbers.specs.Root.{root}
 use Rattle.numbers.specs.Decode.{read, no_product}
 
-pub is_nan : (x : Float) → ne x x ≡ true → x ≡ nan
-is_nan x h = differs_from_itself x (subst T (sym h) tt)
+pub is_nan_lem : (x : Float) → ne x x ≡ true → x ≡ nan
+is_nan_lem x h = differs_from_itself x (subst T (sym h) tt)
 
 pub not_nan : (x : Float) → ne x x ≡ false → T (not (is_nan x))
 unfolding ne is_nan
@@ -36,7 +36,7 @@ Own x = x ≡ root x
 
 pub nan_own : (x : Float) → ne x x ≡ true → Own x
 unfolding root
-nan_own x h = subst Own (sym (is_nan x h)) refl
+nan_own x h = subst Own (sym (is_nan_lem x h)) refl
 
 pub zero_own : (b : ℕ) → b ≡ 0 → Own (of_bits binary64 b)
 unfolding of_bits root

@@ -6,14 +6,14 @@ use crate::order::{before, is_finite};
 use refusal::NUMBER;
 
 // A leaf's answer.
-#[derive(Drop)]
+#[derive(Clone, Copy)]
 pub enum Leaf {
     Value(f64),
     Refused(u64),
 }
 
 // Where the first stands in the order, seen from the second.
-#[derive(Drop)]
+#[derive(Clone, Copy)]
 pub enum Place {
     Before,
     Same,

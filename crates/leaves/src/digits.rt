@@ -4,7 +4,7 @@ ghost use Rattle.std.specs.Float.{binary64};
 ghost use Rattle.numbers.specs.Root.{near_root, root_units, root};
 
 // The whole root of w * 2^52, and what is left of it.
-#[derive(Drop)]
+#[derive(Clone, Copy)]
 pub struct Rooted {
     pub root: u64,
     pub rest: u64,

@@ -1,5 +1,7 @@
 // The number leaves: document 01's module 1. Every f64 goes in, NaN and infinities too, and each contract is an
 // equation over the kit's account of IEEE 754. `checked` has the same with document 01's refusal in front.
+#![tactic(auto)]
+
 pub mod bits;
 pub mod cast;
 pub mod checked;

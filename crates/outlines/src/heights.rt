@@ -13,7 +13,7 @@ pub const BLOCKS: usize = 128;
 // Three numbers for each block, and for each of 64 rings.
 pub const HEIGHTS: usize = 576;
 
-#[derive(Drop)]
+#[derive(Clone, Copy)]
 pub struct Height {
     pub lo: f64,
     pub hi: f64,

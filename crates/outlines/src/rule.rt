@@ -2,7 +2,7 @@
 ghost use Rattle.std.specs.Prelude.{◌≡◌};
 ghost use Rattle.outlines.specs.Inside.{inside};
 
-#[derive(Drop)]
+#[derive(Clone, Copy)]
 pub enum FillRule {
     NonZero,
     EvenOdd,

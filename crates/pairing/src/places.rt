@@ -14,7 +14,7 @@ use geom::steps::steps;
 use leaves::of_u64;
 
 // The sync point that is kept next; the last of them is the ends.
-#[derive(Drop)]
+#[derive(Clone, Copy)]
 pub struct Kept {
     pub point: P,
     pub last: bool,
@@ -22,14 +22,14 @@ pub struct Kept {
 }
 
 // A pass: n steps of this length along the centre.
-#[derive(Drop)]
+#[derive(Clone, Copy)]
 pub struct Pass {
     pub n: u64,
     pub step: f64,
 }
 
 // Where the walk along the windows stands: s into the window between two sync points, with at most `left` places to come.
-#[derive(Drop)]
+#[derive(Clone, Copy)]
 pub struct Walk {
     pub from: P,
     pub to: P,

@@ -23,7 +23,7 @@ pub fn put_rails(rails: &mut [f64], a: &[f64], b: &[f64])
 }
 
 // Where laying stands: the walk, the place in the working slice, and the corners at which the sides end that the last pair was found on.
-#[derive(Drop)]
+#[derive(Clone, Copy)]
 pub struct Laying {
     pub walk: Walk,
     pub to: usize,

@@ -12,7 +12,7 @@ use leaves::smaller;
 use satinrules::{Pair, Satin};
 
 // Which point of a pair a pass takes.
-#[derive(Drop)]
+#[derive(Clone, Copy)]
 pub enum Thread {
     Middle,
     SideA,

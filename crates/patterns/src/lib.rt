@@ -1,4 +1,5 @@
 // Document 01's face of patterns.rs: bounds, clipping and cross stitch. The first check that applies answers, and a refusal writes nothing.
+#![tactic(auto)]
 ghost use Rattle.std.specs.Prelude.{◌≡◌, length};
 ghost use Rattle.patterns_rules.specs.Answers.{bounds_answer, clip_said, clip_points, clip_ends, cross_said, cross_points, cross_ends};
 ghost use Rattle.patterns.specs.Said.{said_box};
@@ -13,7 +14,7 @@ use patterns_rules::{Bounds, Lines};
 use refusal::{LAYOUT, NUMBER, SETTING, SIZE};
 
 // The bounds of an outline.
-#[derive(Drop)]
+#[derive(Clone, Copy)]
 pub enum Box {
     Around(Bounds),
     Refused(u64),

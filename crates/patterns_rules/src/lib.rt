@@ -2,7 +2,8 @@
 // specs/Patterns.antt. Here are the records that travel by value.
 
 // The least box around an outline: the source's `lo` is (left, top), its `hi` is (right, bottom).
-#[derive(Drop)]
+#![tactic(auto)]
+#[derive(Clone, Copy)]
 pub struct Bounds {
     pub left: f64,
     pub top: f64,
@@ -11,7 +12,7 @@ pub struct Bounds {
 }
 
 // The cells of a badge, on a grid that all badges share: its first column and row, and how many there are of each.
-#[derive(Drop)]
+#[derive(Clone, Copy)]
 pub struct Grid {
     pub cell: f64,
     pub left: i64,
@@ -21,21 +22,21 @@ pub struct Grid {
 }
 
 // Adjacent cells of a row: the first, counted from the grid's first column, and how many.
-#[derive(Drop)]
+#[derive(Clone, Copy)]
 pub struct Run {
     pub first: usize,
     pub many: usize,
 }
 
 // Lines, and the points of all of them.
-#[derive(Drop)]
+#[derive(Clone, Copy)]
 pub struct Count {
     pub lines: usize,
     pub points: usize,
 }
 
 // What a call that sews lines says: a number of the table, how many lines stand in its output, and how many points they have; none after a refusal.
-#[derive(Drop)]
+#[derive(Clone, Copy)]
 pub struct Lines {
     pub answer: u64,
     pub lines: u64,

@@ -6,7 +6,7 @@ use crate::cuts::{alike, square_steps};
 use leaves::of_u64;
 
 // Pieces whose squared length lies between `from` and `to` take n steps.
-#[derive(Drop)]
+#[derive(Clone, Copy)]
 pub struct Alike {
     pub from: f64,
     pub to: f64,

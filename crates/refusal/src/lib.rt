@@ -1,6 +1,7 @@
 // Document 01's table of answers: each number named once. Requests add theirs below.
 
 // None of the others applies.
+#![tactic(auto)]
 pub const DONE: u64 = 0;
 // Counts and framing.
 pub const LAYOUT: u64 = 1;
@@ -18,14 +19,14 @@ pub const WORK: u64 = 6;
 pub const ROOM: u64 = 7;
 
 // What a call that sews says: a number of the table, and how many points stand at the front of its output, none after a refusal.
-#[derive(Drop)]
+#[derive(Clone, Copy)]
 pub struct Sewn {
     pub answer: u64,
     pub points: u64,
 }
 
 // The same of a call that writes bytes.
-#[derive(Drop)]
+#[derive(Clone, Copy)]
 pub struct Written {
     pub answer: u64,
     pub bytes: u64,

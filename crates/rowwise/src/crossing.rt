@@ -12,7 +12,7 @@ use rules::Settings;
 use sweep::piece::{Crossing, join, way};
 
 // What is asked: row y, the crossing that was passed last, and how many sides were passed with it.
-#[derive(Drop)]
+#[derive(Clone, Copy)]
 pub struct Ask {
     pub y: f64,
     pub after: f64,

@@ -6,7 +6,7 @@ use crate::rows::all_rows;
 use finding::Plan;
 
 // How many pieces.
-#[derive(Drop)]
+#[derive(Clone, Copy)]
 pub enum Found {
     Short,
     Held(usize),

@@ -11,7 +11,7 @@ use rules::Settings;
 use sweep::piece::{Cut, Scan, Span, closes, cut_ends, pass, put_piece};
 
 // A piece, and where the scan stands then: behind the crossing at the last number.
-#[derive(Drop)]
+#[derive(Clone, Copy)]
 pub enum Step {
     Found(Span, Scan, f64),
     End,

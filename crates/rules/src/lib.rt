@@ -2,7 +2,8 @@
 // them in the files beside it. Here are the records that travel by value.
 
 // The fill's settings: one record of numbers. Stagger, rule and direction stand beside it.
-#[derive(Drop)]
+#![tactic(auto)]
+#[derive(Clone, Copy)]
 pub struct Settings {
     pub spacing: f64,
     pub len: f64,
@@ -13,7 +14,7 @@ pub struct Settings {
 }
 
 // A kept edge, from its top (x0, y0) down to y1. It falls where the outline runs down along it: the source's dir 1.
-#[derive(Drop)]
+#[derive(Clone, Copy)]
 pub struct Edge {
     pub y0: f64,
     pub y1: f64,
@@ -23,7 +24,7 @@ pub struct Edge {
 }
 
 // A piece of row k: the source's Row.
-#[derive(Drop)]
+#[derive(Clone, Copy)]
 pub struct Piece {
     pub k: i64,
     pub y: f64,
@@ -32,7 +33,7 @@ pub struct Piece {
 }
 
 // An entry of the row list: a kept piece, its section's number, and its place in that section, from 0.
-#[derive(Drop)]
+#[derive(Clone, Copy)]
 pub struct Entry {
     pub piece: Piece,
     pub section: u64,

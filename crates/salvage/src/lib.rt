@@ -1,4 +1,5 @@
 // Outlines that arrive broken: stray corners dropped before a fill, and told with their places and reasons. Request [11].
+#![tactic(auto)]
 ghost use Rattle.std.specs.Prelude.{◌≡◌, true, ◌&&◌, ◌*◌, ◌≤◌, leb, length};
 ghost use Rattle.limits.specs.Limits.{good_outline};
 ghost use Rattle.salvage.specs.Salvage.{marks as marks_of, fits, outcome, outcome_by, salvage_outcome};
@@ -14,7 +15,7 @@ use limits::{MOST_CORNERS, good_outline};
 use refusal::{DONE, LAYOUT, ROOM};
 
 // What the call says: a number of document 01's table, how many corners are kept and how many dropped; none after a refusal.
-#[derive(Drop)]
+#[derive(Clone, Copy)]
 pub struct Salvaged {
     pub answer: u64,
     pub corners: u64,

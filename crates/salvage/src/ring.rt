@@ -23,7 +23,7 @@ pub const CLOSING: usize = 4;
 pub const FEW: usize = 5;
 
 // The last kept corner of a ring, if there is one yet.
-#[derive(Drop)]
+#[derive(Clone, Copy)]
 pub enum Last {
     Nothing,
     Corner(P),

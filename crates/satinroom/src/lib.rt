@@ -1,4 +1,5 @@
 // Working room that is always enough for `pairs` and `column`, so that no caller has to guess it. No place is walked: a pass of n steps has at most n + 1 pairs.
+#![tactic(auto)]
 ghost use Rattle.std.specs.Prelude.{◌≡◌, [], ◌∷◌};
 ghost use Rattle.refusal.specs.Refusal.{SETTING, unless, ◌then◌};
 ghost use Rattle.geom.specs.Outline.{points};
@@ -18,7 +19,7 @@ use satin::underlay::runs;
 use satinrules::{Satin, good_satin};
 
 // One of 1 to 5 and no room, or DONE and how many floats are enough.
-#[derive(Drop)]
+#[derive(Clone, Copy)]
 pub struct Room {
     pub answer: u64,
     pub floats: u64,

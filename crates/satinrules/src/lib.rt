@@ -1,5 +1,6 @@
 // What a satin column is, as definitions: document 01's rules and the source's satin.rs in specs/ (Arc, Pairs, Column, Calls), and what is
 // proved of them in the files beside them. Here are the records that travel by value, and the maker of the settings.
+#![tactic(auto)]
 ghost use Rattle.std.specs.Prelude.{◌≡◌};
 ghost use Rattle.satinrules.specs.Settings.{said_made, good_split_set, good_satin, split_of, made_answer};
 
@@ -8,21 +9,21 @@ use limits::{good_inset, good_len, good_spacing, good_split, good_underlay};
 use refusal::SETTING;
 
 // Matched points on both rails.
-#[derive(Drop)]
+#[derive(Clone, Copy)]
 pub struct Pair {
     pub a: P,
     pub b: P,
 }
 
 // The longest top stitch, in units; or none is too long.
-#[derive(Drop)]
+#[derive(Clone, Copy)]
 pub enum Split {
     Absent,
     Length(f64),
 }
 
 // How the top stitches cross the column.
-#[derive(Drop)]
+#[derive(Clone, Copy)]
 pub enum Style {
     Plain,
     SStitch,
@@ -30,7 +31,7 @@ pub enum Style {
 }
 
 // The satin settings: one record, passed by value. The underlay's bits are 1 centre, 2 contour, 4 zigzag.
-#[derive(Drop)]
+#[derive(Clone, Copy)]
 pub struct Satin {
     pub spacing: f64,
     pub pull: f64,
@@ -42,7 +43,7 @@ pub struct Satin {
 }
 
 // What the maker says: the settings, or document 01's number.
-#[derive(Drop)]
+#[derive(Clone, Copy)]
 pub enum Made {
     Settings(Satin),
     Refused(u64),

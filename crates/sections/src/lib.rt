@@ -1,6 +1,7 @@
 // Sections: every piece of the row list gets its mark, its section's number and its place in that section.
 // Pieces stand as blocks of three floats (y, xa, xb). Of the whole numbers the first n are the pieces' rows, and the marks
 // come after them, as blocks of two.
+#![tactic(auto)]
 ghost use Rattle.std.specs.Prelude.{◌≡◌, ◌+◌, ◌-◌, ◌*◌, ◌≤◌, ◌<◌, length};
 ghost use Rattle.seqs.specs.Lists.{All};
 ghost use Rattle.seqs.specs.Slices.{Wrote};
@@ -22,20 +23,20 @@ use outlines::heights::{HEIGHTS, heights};
 use outlines::inside::point_inside_by;
 use rules::{Entry, Piece, Settings};
 
-#[derive(Drop)]
+#[derive(Clone, Copy)]
 pub enum Found {
     At(usize),
     Nothing,
 }
 
-#[derive(Drop)]
+#[derive(Clone, Copy)]
 pub struct Mark {
     pub section: usize,
     pub nth: usize,
 }
 
 // Where a row lies: of n pieces, the row before from b0 to r0, this one from r0 to r1.
-#[derive(Drop)]
+#[derive(Clone, Copy)]
 pub struct Row {
     pub n: usize,
     pub b0: usize,
@@ -80,7 +81,7 @@ fn entry_at(pieces: &[f64], wholes: &[usize], n: usize, t: usize) -> Entry
 }
 
 // The way from an open section's last piece to the next.
-#[derive(Drop)]
+#[derive(Clone, Copy)]
 pub struct Link {
     pub from: P,
     pub to: P,
@@ -159,7 +160,7 @@ fn connects(
 }
 
 // What all rows of a fill share.
-#[derive(Drop)]
+#[derive(Clone, Copy)]
 pub struct Fill {
     pub rule: FillRule,
     pub settings: Settings,

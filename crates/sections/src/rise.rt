@@ -9,7 +9,7 @@ use crate::{Found, overlap, piece_at};
 use rules::Piece;
 
 // The places that are left of a bisection.
-#[derive(Drop)]
+#[derive(Clone, Copy)]
 pub struct Half {
     pub lo: usize,
     pub hi: usize,

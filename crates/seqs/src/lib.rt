@@ -1,1 +1,3 @@
 // Laws on lists that every layer uses, in specs/. No code.
+
+#![tactic(auto)]

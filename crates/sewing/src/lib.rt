@@ -3,6 +3,7 @@
 // The pieces' part of the floats holds y, xa, xb of piece i at 3 * i. Of n pieces the part of the whole numbers holds
 // the row of piece i at i, its section and its place there at n + 2 * i, and the links that `link` writes: the next piece
 // of its section (n where there is none) at 3 * n + i, the first piece of section s at 4 * n + s.
+#![tactic(auto)]
 mod links;
 mod piece;
 mod row;
@@ -15,7 +16,7 @@ use rules::Settings;
 pub use section::{count, write};
 
 // What is sewn: the settings and the stagger, the number of the first row met, whether rows are met last first, and how many pieces there are.
-#[derive(Drop)]
+#[derive(Clone, Copy)]
 pub struct Field {
     pub g: Settings,
     pub stagger: u64,

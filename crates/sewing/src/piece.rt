@@ -10,7 +10,7 @@ use geom::P;
 use leaves::{of_u64, smaller};
 
 // What all rows of a fill share: the least first and last stitch, the stagger's cycle, the first row's place in it.
-#[derive(Drop)]
+#[derive(Clone, Copy)]
 pub struct Thread {
     pub margin: f64,
     pub cycle: u64,

@@ -11,7 +11,7 @@ ghost use Rattle.sewing.specs.Sewing.{most, row_by, Near, target};
 use leaves::{ceil, floor, of_i64, to_i64};
 
 // `first`, then n needle points off + m * len from m0 on, left to right or back, then `last`.
-#[derive(Drop)]
+#[derive(Clone, Copy)]
 pub struct Row {
     pub y: f64,
     pub first: f64,

@@ -11,7 +11,7 @@ use leaves::quick::root;
 use leaves::{ceil, of_u64, to_u64};
 
 // Squared lengths that decide with no root: up to `one` a step isn't cut, from `from` to `two` it is cut once.
-#[derive(Drop)]
+#[derive(Clone, Copy)]
 pub struct Limits {
     pub one: f64,
     pub from: f64,

@@ -6,7 +6,7 @@ ghost use Rattle.sweep.specs.Swept.{enters, stays, Retained, Admitted, Gathered}
 use crate::key::{Key, sort};
 use edges::edge_at;
 
-#[derive(Drop)]
+#[derive(Clone, Copy)]
 pub struct Live {
     pub m: usize,
     pub next: usize,

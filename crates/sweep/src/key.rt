@@ -7,7 +7,7 @@ ghost use Rattle.sweep.specs.Swept.{key_of, ahead, by, ordered};
 use edges::edge_at;
 
 // A row's crossings, y0, or y1 with the last first.
-#[derive(Drop)]
+#[derive(Clone, Copy)]
 pub enum Key {
     X(f64),
     Top,

@@ -12,7 +12,7 @@ use leaves::to_bits;
 use outlines::FillRule;
 
 // What a row asks of its pieces: how much each end gives way, and the least width.
-#[derive(Drop)]
+#[derive(Clone, Copy)]
 pub struct Cut {
     pub rule: FillRule,
     pub y: f64,
@@ -20,14 +20,14 @@ pub struct Cut {
     pub least: f64,
 }
 
-#[derive(Drop)]
+#[derive(Clone, Copy)]
 pub struct Span {
     pub xa: f64,
     pub xb: f64,
 }
 
 // A row's crossings of equal x, taken as one: their directions added, and where the next one stands.
-#[derive(Drop)]
+#[derive(Clone, Copy)]
 pub struct Crossing {
     pub x: f64,
     pub dir: i64,
@@ -35,14 +35,14 @@ pub struct Crossing {
 }
 
 // Where a scan of a row's places stands: crossings passed, the winding number, and where the span began.
-#[derive(Drop)]
+#[derive(Clone, Copy)]
 pub struct Scan {
     pub at: usize,
     pub w: i64,
     pub start: f64,
 }
 
-#[derive(Drop)]
+#[derive(Clone, Copy)]
 pub enum Step {
     Found(Span, Scan),
     End,

@@ -7,7 +7,7 @@ use crate::active::{Live, gather};
 use crate::piece::{Cut, put_pieces, put_rows};
 
 // After a row: the stripe's two counts, and how many pieces there are.
-#[derive(Drop)]
+#[derive(Clone, Copy)]
 pub struct Done {
     pub m: usize,
     pub next: usize,

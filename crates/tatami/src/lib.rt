@@ -2,6 +2,7 @@
 //
 // Checks 1 to 5 look at the outline alone. Then the edges and the pieces go to the working slices as far as there is room (docs/FILL.md has their
 // layout), WORK is decided, and everything is counted before anything is written. Both slices are zero on the way out.
+#![tactic(auto)]
 ghost use Rattle.std.specs.Prelude.{◌≡◌};
 ghost use Rattle.tatami.specs.Left.{left, left_list, tatami_left, row_list_left};
 
@@ -17,7 +18,7 @@ use outlines::FillRule;
 use rules::Settings;
 
 // What `tatami` says: document 01's number, how many sections and how many points; no section and no point after a refusal.
-#[derive(Drop)]
+#[derive(Clone, Copy)]
 pub struct Filled {
     pub answer: u64,
     pub sections: u64,
@@ -25,7 +26,7 @@ pub struct Filled {
 }
 
 // What the row list says: the number, and how many pieces; none after a refusal.
-#[derive(Drop)]
+#[derive(Clone, Copy)]
 pub struct Listed {
     pub answer: u64,
     pub pieces: u64,

@@ -14,7 +14,7 @@ use outlines::FillRule;
 use outlines::inside::point_inside_by;
 
 // How far a line is clipped: the last point, whether it is inside, whether a run is on; and the runs and points of all lines so far, two counts that stop at the largest number.
-#[derive(Drop)]
+#[derive(Clone, Copy)]
 pub struct Pen {
     pub at: P,
     pub inside: bool,

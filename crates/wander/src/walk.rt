@@ -13,7 +13,7 @@ use meander_rules::Lattice;
 use outlines::FillRule;
 
 // A way that was picked, or the count of points where there is none; and the random source after it.
-#[derive(Drop)]
+#[derive(Clone, Copy)]
 pub struct Picked {
     pub way: usize,
     pub seed: u64,
