@@ -1,5 +1,6 @@
 // Points, the flat form of lines and outlines, and the steps of a piece: geom.rs. The cores take every f64, NaN and infinities too.
 #![tactic(auto)]
+
 pub mod point;
 pub mod sewing;
 pub mod steps;

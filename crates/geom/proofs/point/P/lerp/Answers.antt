@@ -1,0 +1,7 @@
+use borrow.Author.Rules.{rules}
+use Rattle.geom.specs.Point.{lerp}
+use Rattle.geom.proofs.point.P.lerp.Goals as goal
+
+pub returns : goal.returns
+unfolding lerp
+returns c = cc
