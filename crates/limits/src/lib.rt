@@ -1,5 +1,6 @@
 // Document 01's limits, named in this one place, and the tests that hold input to them.
 #![tactic(auto)]
+
 ghost use Rattle.std.specs.Prelude.{◌≡◌};
 ghost use Rattle.geom.specs.Outline.{rising};
 ghost use Rattle.limits.specs.Limits.{within, good_number, good_point, good_numbers, good_spacing, good_len, good_step, good_inset, good_stagger, good_cell, good_passes, good_underlay, good_split, good_turn, good_outline, good_line};

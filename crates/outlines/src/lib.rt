@@ -1,5 +1,6 @@
 // Outlines: the fill rule, the winding of rings about a point, and what is inside (geom.rs). The cores take every f64.
 #![tactic(auto)]
+
 pub mod heights;
 pub mod inside;
 pub mod rule;

@@ -1,0 +1,14 @@
+use mathlib.Core.Path.{◌≡◌, sym, ◌∙◌}
+use Prim.Native.Nat.{◌-◌, ◌≤◌}
+use lib.ListN.{length, drop}
+use borrow.Author.Tests.{lt-leb, le-leb}
+use Rattle.geom.specs.Outline.{rising}
+use Rattle.geom.specs.OutlineLaws.{rising_next, rising_none}
+use borrow.Author.Rules.{rules}
+use Rattle.limits.proofs.ends_rise.Given as goal
+
+abbrev pub invariant-loop-k : goal.invariant-loop-k
+invariant-loop-k l = (l.k ≤ length l.ends) × (rising l.a (drop l.k l.ends) l.n ≡ rising 0 l.ends l.n)
+
+abbrev pub decreases-loop-k : goal.decreases-loop-k
+decreases-loop-k l = length l.ends - l.k

@@ -1,0 +1,19 @@
+use mathlib.Core.Path.{◌≡◌}
+use mathlib.Core.Bool.{true}
+use Prim.Native.Nat.{◌-◌, ◌*◌, ◌/◌, ◌≤◌}
+use native.Mathlib.Omega.{arith}
+use lib.ListN.{length, drop, get_or, length-take}
+use Rattle.seqs.specs.Wrote.{Run, run_start}
+use Rattle.geom.specs.Outline.{points, cut, rings, rising}
+use Rattle.geom.specs.OutlineLaws.{rising_turn}
+use Rattle.outlines.specs.Sides.{sides}
+use Rattle.outlines.proofs.Loops.{part_even}
+use Rattle.outlines.proofs.Gathering.{rings_turn, rings_ended, gathered}
+use borrow.Author.Rules.{rules}
+use Rattle.outlines.proofs.sides.gather.Given as goal
+
+abbrev pub invariant-loop-k : goal.invariant-loop-k
+invariant-loop-k l = (l.k ≤ length l.ends) × (rising l.a (drop l.k l.ends) (length l.corners / 2) ≡ true) × (l.n ≤ 4 * l.a) × Run l.initial.out l.out 0 l.n (sides l.y (cut l.a (drop l.k l.ends) (points l.corners))) (sides l.y (rings l.corners l.ends))
+
+abbrev pub decreases-loop-k : goal.decreases-loop-k
+decreases-loop-k l = length l.ends - l.k

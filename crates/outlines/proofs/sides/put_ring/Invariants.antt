@@ -1,0 +1,15 @@
+use Prim.Native.Nat.{◌+◌, ◌-◌, ◌*◌, ◌≤◌}
+use native.Mathlib.Omega.{arith}
+use lib.ListN.{length, drop}
+use Rattle.seqs.specs.Wrote.{Run, run_start, run_at, run_end, wrote_none}
+use Rattle.geom.specs.Outline.{points}
+use Rattle.outlines.specs.Sides.{chain_sides, ring_sides}
+use Rattle.outlines.proofs.Gathering.{ring_none, ring_begins, chain_turn, chain_ended}
+use borrow.Author.Rules.{rules}
+use Rattle.outlines.proofs.sides.put_ring.Given as goal
+
+abbrev pub invariant-loop-i : goal.invariant-loop-i
+invariant-loop-i l = (l.i ≤ length l.l) × (l.at ≤ l.k + 2 * l.i) × Run l.initial.out l.out l.k l.at (chain_sides l.y l.a (points (drop l.i l.l))) (ring_sides l.y (points l.l))
+
+abbrev pub decreases-loop-i : goal.decreases-loop-i
+decreases-loop-i l = length l.l - l.i

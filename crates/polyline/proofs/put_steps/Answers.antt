@@ -1,0 +1,45 @@
+-- `put_steps` meets its contract: the ends of the steps from i on are to be written from `at` on, and then the corner. Assumes nothing.
+use mathlib.Core.Path.{◌≡◌, refl, ap, ◌∙◌}
+use Prim.Native.Nat.{◌+◌, ◌-◌, ◌*◌, ◌≤◌}
+use native.Mathlib.Omega.{arith}
+use mathlib.Core.List.{◌++◌}
+use lib.ListN.{length, take}
+use Rattle.seqs.specs.Front.{Front, front_from, front_at}
+use Rattle.seqs.specs.Wrote.{put_end}
+use Rattle.polyline.specs.Line.{steps_from}
+use Rattle.geom.specs.Sewing.{flat}
+use Rattle.geom.specs.SewingLaws.{flat_none}
+use Rattle.polyline.specs.LineLaws.{steps_size, steps_none}
+use Rattle.polyline.proofs.LineSteps.{step_room, step_put, last_put}
+use borrow.Author.Rules.{rules}
+use Rattle.polyline.proofs.put_steps.Goals as goal
+
+pub loop-i-init : goal.loop-i-init
+loop-i-init c =
+    let a = c.args in
+    (search rules, search rules, refl, front_from _ _ a.k (omega (arith, c.requires.1)))
+
+pub put_point-requires : goal.put_point-requires
+put_point-requires c =
+    let a = c.args in
+    let l = c.loop-i in
+    omega (arith, step_room a.k a.a a.b a.n l.i l.invariant.3 c.requires.1 (search rules))
+
+pub loop-i-preserved : goal.loop-i-preserved
+loop-i-preserved c =
+    let a = c.args in
+    let l = c.loop-i in
+    let e = rw c.along.ensures at c.put_point.ensures in
+    (search rules, search rules, omega arith, step_put a.k a.a a.b a.n l.i l.invariant.3 c.requires.1 (search rules) _ e)
+
+pub put_point-requires-2 : goal.put_point-requires-2
+put_point-requires-2 c =
+    let l = c.loop-i in
+    omega (arith, l.invariant.3.len, l.invariant.2, l.invariant.1, c.requires)
+
+pub returns : goal.returns
+returns c =
+    let a = c.args in
+    let l = c.loop-i in
+    let e = put_end (flat (steps_from a.a a.b a.n 1 (a.n - 1))) a.k (omega (arith, c.requires.1)) (front_at (flat_none (steps_none a.a a.b a.n l.i (search rules))) l.invariant.3) in
+    (last_put a.a a.b a.n c.requires.0 a.out.now _ _ a.k l.at c.requires.1 e.0 (omega (arith, e.1, steps_size a.a a.b a.n 1 (a.n - 1))) c.put_point-2.ensures, omega (arith, e.1, steps_size a.a a.b a.n 1 (a.n - 1)))
