@@ -3,6 +3,7 @@
 
 // The fill's settings: one record of numbers. Stagger, rule and direction stand beside it.
 #![tactic(auto)]
+
 #[derive(Clone, Copy)]
 pub struct Settings {
     pub spacing: f64,
