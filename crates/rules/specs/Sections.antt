@@ -213,7 +213,9 @@ module _ (rings : List (List P)) (rule : FillRule) (g : Settings) (opens : List 
       go none q ih = (omega arith, all_map (λ m l. omega arith) (row_entries rings rule g opens row (new + 1) ps) (ih (new + 1) (omega arith)))
       go (some o) q ih =
           let l : o.section < base = all_mem (λ e. e.section < base) opens b (found p o q).among in
-          rw (ne_eqb (o.nth + 1) 0 (λ z. omega arith)) (omega arith, ih new h)
+          let rest = row_entries rings rule g opens row new ps in
+          let same : begun (entry p new (some o) ∷ rest) ≡ begun rest = rw (ne_eqb (o.nth + 1) 0 (λ z. omega arith)) in
+          subst (λ (n : ℕ). All (λ e. e.section < new + n) (entry p new (some o) ∷ rest)) (sym same) (omega arith, ih new h)
 
   -- and each of these numbers is some entry's
   begins : (s new : ℕ) (ps : List Piece) → new ≤ s → s < new + begun (row_entries rings rule g opens row new ps) → (of_row s new ps ≡ []) → ⊥

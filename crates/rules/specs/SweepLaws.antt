@@ -117,7 +117,7 @@ module _ (rule : FillRule) (g : Settings) (es : List Edge) (Fair : ℤ → Type 
       let f = take_while (starts es y) waiting in
       let m = sift (lives es y) b ++ sift (lives es y) f in
       let q : Permᴰ (sift (lives es y) (a ++ f)) m = rw (sift_append (lives es y) a f) (mathlib.Core.List.Permᴰ.append_right (sift (lives es y) f) (sift_perm (lives es y) p)) in
-      (λ i. pieces_at rule g es k (sort_same (by_x es y) (strict k h.0) q i) ∷ swept_as (mathlib.Core.List.Permᴰ.trans q (mathlib.Core.List.Permᴰ.symm (sort_perm (by_x es y) m))) (drop_while (starts es y) waiting) ks h.1 i)
+      (λ i. pieces_at rule g es k (sort_same (by_x es y) (strict k h.0) q i) ∷ swept_as {a = sift (lives es y) (a ++ f)} {b = sort_by (by_x es y) m} (mathlib.Core.List.Permᴰ.trans q (mathlib.Core.List.Permᴰ.symm (sort_perm (by_x es y) m))) (drop_while (starts es y) waiting) ks h.1 i)
 
   module _ (waiting : List ℕ) (w : InOrder es waiting) (ks : List ℤ) (fair : All Fair ks) (run : IsChain (λ a b. b ≡ suc_ℤ a) ks) where
     -- the source's sweep
