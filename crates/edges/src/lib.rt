@@ -1,5 +1,6 @@
 // The kept edges of an outline: the table that the sweep reads, and the rows that they span. Every f64 goes in, NaN and infinities too.
 #![tactic(auto)]
+
 pub mod rows;
 pub mod side;
 pub mod table;

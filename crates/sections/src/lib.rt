@@ -2,6 +2,7 @@
 // Pieces stand as blocks of three floats (y, xa, xb). Of the whole numbers the first n are the pieces' rows, and the marks
 // come after them, as blocks of two.
 #![tactic(auto)]
+
 ghost use Rattle.std.specs.Prelude.{◌≡◌, ◌+◌, ◌-◌, ◌*◌, ◌≤◌, ◌<◌, length};
 ghost use Rattle.seqs.specs.Lists.{All};
 ghost use Rattle.seqs.specs.Slices.{Wrote};

@@ -4,6 +4,7 @@
 // the row of piece i at i, its section and its place there at n + 2 * i, and the links that `link` writes: the next piece
 // of its section (n where there is none) at 3 * n + i, the first piece of section s at 4 * n + s.
 #![tactic(auto)]
+
 mod links;
 mod piece;
 mod row;

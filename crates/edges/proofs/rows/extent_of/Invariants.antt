@@ -1,0 +1,22 @@
+use mathlib.Core.Path.{◌≡◌, sym, ap, ◌∙◌}
+use mathlib.Core.Bool.{true}
+use Prim.Native.Nat.{◌≤◌, ◌+◌, ◌-◌, ◌*◌, ◌/◌}
+use native.Mathlib.Omega.{arith}
+use lib.ListN.{length, take, drop, get_or}
+use lib.Ieee.{of_bits, nan_bits}
+use Rattle.seqs.specs.Lists.{fold}
+use Rattle.seqs.specs.Each.{fold_append}
+use Rattle.geom.specs.Outline.{points, rings, rising}
+use Rattle.geom.specs.OutlineLaws.{rising_turn}
+use Rattle.rules.specs.Fill.{edges}
+use Rattle.edges.specs.Table.{ring_edges}
+use Rattle.edges.specs.Span.{widen, nowhere}
+use Rattle.edges.specs.SideLaws.{rest, rest_all, rest_next, rest_none}
+use borrow.Author.Rules.{rules}
+use Rattle.edges.proofs.rows.extent_of.Given as goal
+
+abbrev pub invariant-loop-k : goal.invariant-loop-k
+invariant-loop-k l = (l.k ≤ length l.ends) × (rising l.a (drop l.k l.ends) (length l.corners / 2) ≡ true) × (fold widen l.x (rest l.g l.a (drop l.k l.ends) l.corners) ≡ fold widen nowhere (edges l.g (rings l.corners l.ends)))
+
+abbrev pub decreases-loop-k : goal.decreases-loop-k
+decreases-loop-k l = length l.ends - l.k

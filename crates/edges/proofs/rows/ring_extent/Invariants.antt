@@ -1,0 +1,19 @@
+use mathlib.Core.Path.{◌≡◌, sym, ap, ◌∙◌}
+use Prim.Native.Nat.{◌≤◌, ◌+◌, ◌-◌}
+use native.Mathlib.Omega.{arith}
+use lib.ListN.{length, drop}
+use Rattle.seqs.specs.Lists.{fold}
+use Rattle.seqs.specs.Each.{fold_append}
+use Rattle.geom.specs.Outline.{points}
+use Rattle.rules.specs.Fill.{kept_side}
+use Rattle.edges.specs.Table.{corner, following, ring_edges}
+use Rattle.edges.specs.Span.{widen}
+use Rattle.edges.specs.SideLaws.{left, left_next_lem, left_none, ring_short, ring_long}
+use borrow.Author.Rules.{rules}
+use Rattle.edges.proofs.rows.ring_extent.Given as goal
+
+abbrev pub invariant-loop-i : goal.invariant-loop-i
+invariant-loop-i l = (l.i ≤ length l.l) × (fold widen l.x (left l.g (corner l.g l.l 0) (drop l.i l.l)) ≡ fold widen l.initial.x (ring_edges l.g (points l.l)))
+
+abbrev pub decreases-loop-i : goal.decreases-loop-i
+decreases-loop-i l = length l.l - l.i

@@ -1,0 +1,5 @@
+use borrow.Author.Rules.{rules}
+use Rattle.sections.proofs.entry_at.Goals as goal
+
+pub returns : goal.returns
+returns c = rw c.piece_at.ensures

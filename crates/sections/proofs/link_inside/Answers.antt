@@ -1,0 +1,8 @@
+use mathlib.Core.Path.{◌∙◌}
+use Rattle.rules.specs.Fill.{link_inside}
+use borrow.Author.Rules.{rules}
+use Rattle.sections.proofs.link_inside.Goals as goal
+
+pub returns : goal.returns
+unfolding link_inside
+returns c = c.point_inside_by.ensures ∙ rw (c.rotate-q.ensures, c.along.ensures)
