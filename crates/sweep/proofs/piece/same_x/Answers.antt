@@ -1,0 +1,7 @@
+use Rattle.rules.specs.Fill.{same_x}
+use borrow.Author.Rules.{rules}
+use Rattle.sweep.proofs.piece.same_x.Goals as goal
+
+pub returns : goal.returns
+unfolding same_x
+returns c = rw (c.to_bits.ensures, c.to_bits-2.ensures)
