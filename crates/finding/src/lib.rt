@@ -1,5 +1,6 @@
 // The beginning and the end of a fill: checks 1 to 5, the pieces of all rows found in the working slices, and the slices made zero.
 #![tactic(auto)]
+
 pub mod find;
 pub mod gate;
 pub mod zero;
