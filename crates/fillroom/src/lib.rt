@@ -1,5 +1,6 @@
 // Working room that is always enough for a fill, so that no caller has to guess it.
 #![tactic(auto)]
+
 ghost use Rattle.std.specs.Prelude.{◌≡◌, ◌≤◌};
 ghost use Rattle.fillroom.specs.Room.{room_for, room_of};
 

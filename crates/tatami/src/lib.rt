@@ -3,6 +3,7 @@
 // Checks 1 to 5 look at the outline alone. Then the edges and the pieces go to the working slices as far as there is room (docs/FILL.md has their
 // layout), WORK is decided, and everything is counted before anything is written. Both slices are zero on the way out.
 #![tactic(auto)]
+
 ghost use Rattle.std.specs.Prelude.{◌≡◌};
 ghost use Rattle.tatami.specs.Left.{left, left_list, tatami_left, row_list_left};
 

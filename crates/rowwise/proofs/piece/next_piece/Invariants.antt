@@ -1,0 +1,19 @@
+use mathlib.Core.Path.{◌≡◌, refl, ap, sym, ◌∙◌}
+use Prim.Native.Nat.{◌+◌, ◌-◌, ◌≤◌, ◌<◌}
+use native.Mathlib.Omega.{arith}
+use lib.ListN.{length}
+use lib.IntN.{nat_abs}
+use Rattle.geom.specs.Outline.{rings}
+use Rattle.rules.specs.Fill.{edges}
+use Rattle.sweep.specs.declared.piece.Scan.{Scan}
+use Rattle.rowwise.specs.Nearest.{sides_behind, left_after}
+use Rattle.rowwise.specs.Rows.{Scanning}
+use Rattle.rowwise.specs.RowLaws.{scan_turn, scan_fewer, scan_none}
+use borrow.Author.Rules.{rules}
+use Rattle.rowwise.proofs.piece.next_piece.Given as goal
+
+abbrev pub invariant-loop-s : goal.invariant-loop-s
+invariant-loop-s l = (l.initial.s.at ≤ l.s.at) × Scanning l.c (edges l.g (rings l.corners l.ends)) l.s l.last × (left_after l.c (edges l.g (rings l.corners l.ends)) l.initial.s l.initial.last ≡ left_after l.c (edges l.g (rings l.corners l.ends)) l.s l.last)
+
+abbrev pub decreases-loop-s : goal.decreases-loop-s
+decreases-loop-s l = sides_behind l.c.y (edges l.g (rings l.corners l.ends)) l.last

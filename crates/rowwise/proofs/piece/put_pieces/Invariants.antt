@@ -1,0 +1,20 @@
+use mathlib.Core.Path.{refl}
+use mathlib.Core.Bool.{true}
+use Prim.Native.Nat.{◌+◌, ◌-◌, ◌≤◌}
+use native.Mathlib.Omega.{arith}
+use lib.Ieee.{inf, of_bits, nan_bits}
+use Rattle.seqs.specs.Adding.{Adding, adding_start, adding_at, adding_step, adding_end, added_one}
+use Rattle.geom.specs.Outline.{rings}
+use Rattle.rules.specs.Fill.{edges}
+use Rattle.sweep.specs.Swept.{span_block}
+use Rattle.rowwise.specs.Nearest.{left_after, row_cuts}
+use Rattle.rowwise.specs.Rows.{Scanning, place}
+use Rattle.rowwise.specs.RowLaws.{sides_few, step_end, step_found}
+use borrow.Author.Rules.{rules}
+use Rattle.rowwise.proofs.piece.put_pieces.Given as goal
+
+abbrev pub invariant-loop-p : goal.invariant-loop-p
+invariant-loop-p l = Scanning l.c (edges l.g (rings l.corners l.ends)) l.s l.last × (l.n ≤ l.i + l.s.at) × Adding place (span_block l.c.y) l.initial.floats l.floats l.i l.n (left_after l.c (edges l.g (rings l.corners l.ends)) l.s l.last) (row_cuts l.c (edges l.g (rings l.corners l.ends)))
+
+abbrev pub decreases-loop-p : goal.decreases-loop-p
+decreases-loop-p l = 1024 - l.s.at

@@ -1,0 +1,37 @@
+-- The row numbers, one by one. Assumes nothing.
+use mathlib.Core.Path.{◌≡◌, ap, ◌∙◌}
+use mathlib.Core.List.{◌++◌, map}
+use native.Mathlib.Omega.{arith}
+use Prim.Native.Nat.{◌-◌, ◌≤◌}
+use lib.ListN.{drop, get_or, length-map}
+use Rattle.seqs.specs.Lists.{upto}
+use Rattle.seqs.specs.Front.{Front, front_start, front_at, front_push, front_end}
+use Rattle.seqs.specs.Upto.{upto_next, upto_none, upto_length}
+use mir.Syntax.{w64}
+use mir.ValLaws.{to_z-of_z}
+use Rattle.edges.specs.Span.{row_number}
+use Rattle.tatami.specs.Stages.{rows_in}
+use borrow.Author.Rules.{rules}
+use Rattle.tatami.proofs.list.put_rows.Goals as goal
+
+pub loop-i-init : goal.loop-i-init
+loop-i-init c = let e : c.args.n - 0 ≡ c.args.n = omega arith in (omega arith, rw e (front_start _ _))
+
+pub row_number-requires : goal.row_number-requires
+row_number-requires c = (c.requires.2, c.requires.3 c.loop-i.i (search rules))
+
+pub loop-i-preserved : goal.loop-i-preserved
+loop-i-preserved c =
+    let a = c.args in
+    let v = to_z-of_z w64 c.row_number.result (record { sfits = c.row_number.type_inv }) ∙ c.row_number.ensures in
+    (omega arith, rw v (front_push (front_at (ap (map (λ j. row_number a.w a.upward (get_or a.numbers.now j 0))) (upto_next a.n c.loop-i.i (search rules))) c.loop-i.invariant.1) (omega (arith, c.loop-i.invariant.1.len, c.requires.0))))
+
+pub shape_of-out : goal.shape_of-out
+shape_of-out c = c.loop-i.invariant.1.len
+
+pub returns : goal.returns
+unfolding rows_in
+returns c =
+    let a = c.args in
+    front_end (front_at (ap (map (λ j. row_number a.w a.upward (get_or a.numbers.now j 0))) (upto_none a.n c.loop-i.i (search rules))) c.loop-i.invariant.1)
+    ∙ ap (λ k. rows_in a.w a.upward a.n a.numbers.now ++ drop k a.out.now) (length-map (upto 0 a.n) (λ j. row_number a.w a.upward (get_or a.numbers.now j 0)) ∙ upto_length 0 a.n)
