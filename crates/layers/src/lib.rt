@@ -2,6 +2,7 @@
 //
 // The table is written while it is prepared and only then: the fills are lent it to be read. `places` is the sweep's scratch, one fill after the other. The table's slices are zero on the way out, as the fills' own working slices are.
 #![tactic(auto)]
+
 ghost use Rattle.std.specs.Prelude.{◌≡◌};
 ghost use Rattle.tatami.specs.Left.{left};
 ghost use Rattle.layers.specs.Layers.{slices, twice, twice_left};

@@ -3,6 +3,7 @@
 // Checks 1 to 5 are the fill's. Then each row is worked out from the rings alone, its pieces go to the working slices as far as there is room (the layout
 // of docs/FILL.md with E = 0), WORK is decided by 4I floats and 6I whole numbers, and what follows is the fill's own. Both slices are zero on the way out.
 #![tactic(auto)]
+
 ghost use Rattle.std.specs.Prelude.{◌≡◌};
 ghost use Rattle.tatami.specs.Left.{left, left_list};
 ghost use Rattle.plain.specs.Plain.{plain_tatami_left, plain_row_list_left};
