@@ -1,6 +1,7 @@
 // What a satin column is, as definitions: document 01's rules and the source's satin.rs in specs/ (Arc, Pairs, Column, Calls), and what is
 // proved of them in the files beside them. Here are the records that travel by value, and the maker of the settings.
 #![tactic(auto)]
+
 ghost use Rattle.std.specs.Prelude.{◌≡◌};
 ghost use Rattle.satinrules.specs.Settings.{said_made, good_split_set, good_satin, split_of, made_answer};
 
