@@ -1,5 +1,6 @@
 // A rail by its running lengths, the point at a length along it, and the walker that keeps the rail's corners: satin.rs's `Arc`.
 #![tactic(auto)]
+
 ghost use Rattle.std.specs.Prelude.{◌≡◌, ◌+◌, ◌*◌, ◌<◌, ◌≤◌, length, drop};
 ghost use Rattle.seqs.specs.Slices.{put};
 ghost use Rattle.geom.specs.Outline.{points};
