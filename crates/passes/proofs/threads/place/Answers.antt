@@ -1,0 +1,9 @@
+use native.Mathlib.Omega.{arith}
+use borrow.Author.Rules.{rules}
+use Rattle.passes.proofs.threads.place.Goals as goal
+
+pub returns-then-back : goal.returns-then-back
+returns-then-back c = (rw c.if-back.true, omega arith)
+
+pub returns : goal.returns
+returns c = (rw c.if-back.false, search rules)

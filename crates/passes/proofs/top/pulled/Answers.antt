@@ -1,0 +1,12 @@
+use mathlib.Core.Path.{◌∙◌}
+use Rattle.satinrules.specs.Column.{pulled}
+use borrow.Author.Rules.{rules}
+use Rattle.passes.proofs.top.pulled.Goals as goal
+
+pub returns-then-short : goal.returns-then-short
+unfolding pulled
+returns-then-short c = rw c.if-short.true (c.plus.ensures ∙ rw (c.times.ensures, c.norm.ensures, c.minus.ensures))
+
+pub returns : goal.returns
+unfolding pulled
+returns c = rw c.if-short.false

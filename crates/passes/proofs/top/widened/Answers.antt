@@ -1,0 +1,7 @@
+use Rattle.satinrules.specs.Column.{widened}
+use borrow.Author.Rules.{rules}
+use Rattle.passes.proofs.top.widened.Goals as goal
+
+pub returns : goal.returns
+unfolding widened
+returns c = rw (c.plus-p.ensures, c.minus-r.ensures, c.times.ensures, c.times-2.ensures, c.norm-dir.ensures, c.minus.ensures)
