@@ -1,5 +1,6 @@
 // Document 01's calls of a satin column: the first check that applies answers, and a refusal writes nothing.
 #![tactic(auto)]
+
 ghost use Rattle.std.specs.Prelude.{◌≡◌, length};
 ghost use Rattle.satinrules.specs.Calls.{split_sewn, split_output, s_stitch_sewn, s_stitch_output, pairs_sewn, pairs_output, pairs_work};
 

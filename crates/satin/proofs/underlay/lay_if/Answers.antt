@@ -1,0 +1,16 @@
+use mathlib.Core.Path.{refl, sym, ◌∙◌}
+use native.Mathlib.Omega.{arith}
+use Rattle.seqs.specs.Tests.{clash}
+use borrow.Author.Rules.{rules}
+use Rattle.satin.proofs.underlay.lay_if.Goals as goal
+
+pub lay_pairs-requires : goal.lay_pairs-requires
+lay_pairs-requires c = (c.requires.0, omega (arith, (c.requires.1 c.if-sewn.true).0))
+
+pub returns-then-sewn : goal.returns-then-sewn
+returns-then-sewn c =
+    let r = c.lay_pairs.ensures in
+    (r.1, λ t. rw r.0 at (r.2 (rw r.0 (c.requires.1 t).1)))
+
+pub returns : goal.returns
+returns c = (refl, λ t. clash t c.if-sewn.false)
