@@ -1,5 +1,6 @@
 // Document 01's call `column`: the first check that applies answers, and a refusal writes nothing.
 #![tactic(auto)]
+
 ghost use Rattle.std.specs.Prelude.{◌≡◌, length};
 ghost use Rattle.satinrules.specs.Calls.{column_sewn, column_output, column_work};
 

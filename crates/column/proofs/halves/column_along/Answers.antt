@@ -1,0 +1,65 @@
+-- `column_along` meets its contract: which of SIZE, WORK, ROOM and DONE it is. Assumes nothing.
+use mathlib.Core.Path.{◌≡◌, refl, sym, ap, ◌∙◌}
+use mathlib.Core.Bool.{true}
+use Prim.Native.Nat.{◌≤◌}
+use native.Mathlib.Omega.{arith}
+use lib.ListN.{length, length-replicate}
+use borrow.Author.Tests.{not-true, not-false}
+use Rattle.geom.specs.Outline.{points}
+use Rattle.satinrules.specs.Column.{column}
+use Rattle.satinrules.specs.Calls.{rails_of, pass_steps, sized, most_of, need}
+use Rattle.column.specs.Sized.{sized_at, most_in}
+use Rattle.column.specs.SizedLaws.{sized_is, most_is, most_small}
+use Rattle.column.specs.HalvesLaws.{ready, ready_same, column_size, column_work_lem, column_fitted, worked_fitted}
+use borrow.Author.Rules.{rules}
+use Rattle.column.proofs.halves.column_along.Goals as goal
+
+pub returns-then-not-column_sized : goal.returns-then-not-column_sized
+returns-then-not-column_sized c =
+    let a = c.args in
+    let s = sym (sized_is a.a.now a.b.now a.sync.now a.g c.ends_of-ends.ensures (pass_steps a.g)) ∙ sym c.column_sized.ensures ∙ c.if-not-column_sized.true in
+    rw (column_size a.a.now a.b.now a.sync.now a.g (length a.work.now) (length a.out.now) c.requires.1 s) (refl, refl, refl)
+
+pub passes_of-p-requires : goal.passes_of-p-requires
+passes_of-p-requires c = (c.requires.0, sym c.column_sized.ensures ∙ c.if-not-column_sized.false)
+
+pub need-requires : goal.need-requires
+need-requires c =
+    let a = c.args in
+    let ok = sym c.column_sized.ensures ∙ c.if-not-column_sized.false in
+    rw (c.column_most.ensures, c.passes_of-p.ensures.0) (most_small c.ends_of-ends.result (points a.sync.now) a.g ok)
+
+pub shape_of-work-then-work-need : goal.shape_of-work-then-work-need
+shape_of-work-then-work-need c = ap length c.zero.ensures ∙ length-replicate _ _ ∙ c.passes_of-p.ensures.1
+
+pub returns-then-work-need : goal.returns-then-work-need
+returns-then-work-need c =
+    let a = c.args in
+    let ok = sym c.column_sized.ensures ∙ c.if-not-column_sized.false in
+    let sizes = sym (sized_is a.a.now a.b.now a.sync.now a.g c.ends_of-ends.ensures (pass_steps a.g)) ∙ ok in
+    let most = most_is a.a.now a.b.now a.sync.now a.g c.ends_of-ends.ensures c.requires.1 c.passes_of-p.ensures.0 ok in
+    let k = c.need.ensures ∙ ap (need (rails_of a.a.now a.b.now a.sync.now)) (c.column_most.ensures ∙ sym most) in
+    rw (column_work_lem a.a.now a.b.now a.sync.now a.g (length a.work.now) (length a.out.now) c.requires.1 sizes (rw (k, c.passes_of-p.ensures.1) at c.if-work-need.true)) (refl, refl, rw c.passes_of-p.ensures.1 at c.zero.ensures)
+
+pub sew_halves-r-requires : goal.sew_halves-r-requires
+sew_halves-r-requires c =
+    let a = c.args in
+    let ok = sym c.column_sized.ensures ∙ c.if-not-column_sized.false in
+    let k = c.need.ensures ∙ ap (need (rails_of a.a.now a.b.now a.sync.now)) c.column_most.ensures in
+    let w = ready a.a.now a.b.now a.sync.now a.g c.ends_of-ends.ensures c.requires.1 c.passes_of-p.ensures.0 ok (length a.work.now) (rw (k, c.passes_of-p.ensures.1) at c.if-work-need.false) in
+    (c.requires.0, ready_same w c.passes_of-p.ensures.1, c.passes_of-p.ensures.2 (omega (arith, w.room_t)))
+
+pub shape_of-work : goal.shape_of-work
+shape_of-work c = ap length c.zero-2.ensures ∙ length-replicate _ _ ∙ c.sew_halves-r.ensures.2 ∙ c.passes_of-p.ensures.1
+
+pub returns : goal.returns
+returns c =
+    let a = c.args in
+    let ok = sym c.column_sized.ensures ∙ c.if-not-column_sized.false in
+    let sizes = sym (sized_is a.a.now a.b.now a.sync.now a.g c.ends_of-ends.ensures (pass_steps a.g)) ∙ ok in
+    let most = most_is a.a.now a.b.now a.sync.now a.g c.ends_of-ends.ensures c.requires.1 c.passes_of-p.ensures.0 ok in
+    let r = rails_of a.a.now a.b.now a.sync.now in
+    let h = c.sew_halves-r.ensures in
+    let k = c.need.ensures ∙ ap (need r) (c.column_most.ensures ∙ sym most) in
+    rw (column_fitted a.a.now a.b.now a.sync.now a.g (length a.work.now) (length a.out.now) c.requires.1 sizes (rw (k, c.passes_of-p.ensures.1) at c.if-work-need.false))
+    (h.0, h.1, (rw (h.2, c.passes_of-p.ensures.1) at c.zero-2.ensures) ∙ sym (worked_fitted (column r a.g) (length a.out.now) a.work.now))
