@@ -1,5 +1,6 @@
 // Working room that is always enough for `pairs` and `column`, so that no caller has to guess it. No place is walked: a pass of n steps has at most n + 1 pairs.
 #![tactic(auto)]
+
 ghost use Rattle.std.specs.Prelude.{◌≡◌, [], ◌∷◌};
 ghost use Rattle.refusal.specs.Refusal.{SETTING, unless, ◌then◌};
 ghost use Rattle.geom.specs.Outline.{points};
