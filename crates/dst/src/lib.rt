@@ -1,5 +1,6 @@
 // Points to DST records, for the machine: request [1].
 #![tactic(auto)]
+
 ghost use Rattle.std.specs.Prelude.{◌≡◌, length};
 ghost use Rattle.dst.specs.Answers.{dst_written, dst_output};
 

@@ -1,0 +1,48 @@
+-- `dst` meets its contract: each answer follows from the tests on the way to it. Assumes nothing.
+use mathlib.Core.Path.{◌≡◌, refl, sym, ◌∙◌}
+use Prim.Native.Nat.{◌+◌, ◌*◌, ◌/◌, ◌≤◌, ◌<◌}
+use native.Mathlib.Omega.{arith}
+use lib.ListN.{length}
+use borrow.Author.Tests.{not-true, not-false, eq-eqb, ne_eqb, le-leb, lt-leb}
+use Rattle.seqs.specs.Capped.{capped_exact, capped_past}
+use Rattle.geom.specs.Outline.{points}
+use Rattle.dst.specs.Thread.{origin, thread, dst_bytes}
+use Rattle.dst.specs.ThreadLaws.{bytes_length}
+use Rattle.dst.specs.Answers.{dst_refusal, dst_written, dst_output}
+use borrow.Author.Rules.{rules}
+use Rattle.dst.proofs.dst.Goals as goal
+
+pub returns-then-points-ne0 : goal.returns-then-points-ne0
+unfolding dst_refusal dst_written dst_output
+returns-then-points-ne0 c = rw (ne_eqb _ 0 c.if-points-ne0.true) (refl, refl)
+
+pub returns-then-not-good_numbers : goal.returns-then-not-good_numbers
+unfolding dst_refusal dst_written dst_output
+returns-then-not-good_numbers c = rw (eq-eqb _ 0 c.if-points-ne0.false, sym c.good_numbers.ensures ∙ c.if-not-good_numbers.true) (refl, refl)
+
+pub count-n-requires : goal.count-n-requires
+count-n-requires c = (sym c.good_numbers.ensures ∙ c.if-not-good_numbers.false, omega arith)
+
+pub returns-then-n-room : goal.returns-then-n-room
+unfolding dst_refusal dst_written dst_output
+returns-then-n-room c =
+    let a = c.args in
+    let ps = points a.points.now in
+    let h : length a.out.now < length (dst_bytes ps) = omega (arith, bytes_length ps, capped_past (length a.out.now / 3) (1 + length (thread origin ps)) c.count-n.ensures c.if-n-room.true) in
+    rw (eq-eqb _ 0 c.if-points-ne0.false, sym c.good_numbers.ensures ∙ c.if-not-good_numbers.false, lt-leb (length (dst_bytes ps)) (length a.out.now) h) (refl, refl)
+
+pub write-requires : goal.write-requires
+write-requires c =
+    let a = c.args in
+    let ps = points a.points.now in
+    (sym c.good_numbers.ensures ∙ c.if-not-good_numbers.false, omega (arith, bytes_length ps, c.if-n-room.false, capped_exact (length a.out.now / 3) (1 + length (thread origin ps)) c.count-n.ensures c.if-n-room.false))
+
+pub returns : goal.returns
+unfolding dst_refusal dst_written dst_output
+returns c =
+    let a = c.args in
+    let ps = points a.points.now in
+    let n = capped_exact (length a.out.now / 3) (1 + length (thread origin ps)) c.count-n.ensures c.if-n-room.false in
+    let e : 3 * c.count-n.result ≡ length (dst_bytes ps) = omega (arith, bytes_length ps, n) in
+    let h : length (dst_bytes ps) ≤ length a.out.now = omega (arith, e, c.if-n-room.false) in
+    rw (eq-eqb _ 0 c.if-points-ne0.false, sym c.good_numbers.ensures ∙ c.if-not-good_numbers.false, le-leb (length (dst_bytes ps)) (length a.out.now) h) (rw e, c.write.ensures)
