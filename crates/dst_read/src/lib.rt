@@ -1,5 +1,6 @@
 // DST records to points: request [5].
 #![tactic(auto)]
+
 ghost use Rattle.std.specs.Prelude.{◌≡◌, length};
 ghost use Rattle.dst_read.specs.Answers.{dst_read, points_left, marks_left};
 
