@@ -1,5 +1,6 @@
 // Outlines that arrive broken: stray corners dropped before a fill, and told with their places and reasons. Request [11].
 #![tactic(auto)]
+
 ghost use Rattle.std.specs.Prelude.{◌≡◌, true, ◌&&◌, ◌*◌, ◌≤◌, leb, length};
 ghost use Rattle.limits.specs.Limits.{good_outline};
 ghost use Rattle.salvage.specs.Salvage.{marks as marks_of, fits, outcome, outcome_by, salvage_outcome};

@@ -1,0 +1,20 @@
+use mathlib.Core.Path.{◌≡◌}
+use mathlib.Core.Bool.{true}
+use Prim.Native.Nat.{◌-◌, ◌≤◌}
+use native.Mathlib.Omega.{arith}
+use lib.ListN.{length, take, drop, get_or, length-take, length-drop}
+use Rattle.seqs.specs.Front.{Front, front_start, front_at, front_room, front_push, front_end}
+use Rattle.seqs.specs.Sift.{sift_length}
+use Rattle.geom.specs.Outline.{cut, rising}
+use Rattle.geom.specs.OutlineLaws.{rising_turn}
+use Rattle.salvage.specs.Ring.{kept}
+use Rattle.salvage.specs.OutlineLaws.{counted_ends, counted_length}
+use Rattle.salvage.proofs.Rings.{ends_turn, ends_end}
+use borrow.Author.Rules.{rules}
+use Rattle.salvage.proofs.writing.put_ends.Given as goal
+
+abbrev pub invariant-loop-k : goal.invariant-loop-k
+invariant-loop-k l = (l.k ≤ length l.ends) × (l.n ≤ l.a) × (rising l.a (drop l.k l.ends) (length l.marks) ≡ true) × Front l.initial.out l.out l.k (counted_ends l.n (cut l.a (drop l.k l.ends) l.marks)) (counted_ends 0 (cut 0 l.ends l.marks))
+
+abbrev pub decreases-loop-k : goal.decreases-loop-k
+decreases-loop-k l = length l.ends - l.k

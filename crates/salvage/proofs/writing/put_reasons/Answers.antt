@@ -1,0 +1,31 @@
+use Prim.Native.Nat.{◌-◌, ◌≤◌}
+use native.Mathlib.Omega.{arith}
+use lib.ListN.{length, drop}
+use Rattle.seqs.specs.Front.{Front, front_start, front_at, front_room, front_push, front_end}
+use Rattle.salvage.specs.Salvage.{dropped_reasons}
+use Rattle.salvage.proofs.Turns.{reasons_kept, reasons_dropped, reasons_end}
+use borrow.Author.Rules.{rules}
+use Rattle.salvage.proofs.writing.put_reasons.Goals as goal
+
+pub loop-i-init : goal.loop-i-init
+loop-i-init c = (search rules, front_start _ _)
+
+pub loop-i-preserved-then-m-eq-KEPT : goal.loop-i-preserved-then-m-eq-KEPT
+loop-i-preserved-then-m-eq-KEPT c = (search rules, front_at (reasons_kept c.args.marks.now c.loop-i.i (search rules) c.if-m-eq-KEPT.true) c.loop-i.invariant.1)
+
+pub offset_bounds-out-k : goal.offset_bounds-out-k
+offset_bounds-out-k c = omega (arith, front_room (front_at (reasons_dropped c.args.marks.now c.loop-i.i (search rules) c.if-m-eq-KEPT.false) c.loop-i.invariant.1) c.requires)
+
+pub bounds-out-k : goal.bounds-out-k
+bounds-out-k c = omega (arith, front_room (front_at (reasons_dropped c.args.marks.now c.loop-i.i (search rules) c.if-m-eq-KEPT.false) c.loop-i.invariant.1) c.requires)
+
+pub overflow_add-k : goal.overflow_add-k
+overflow_add-k c = omega (arith, front_room (front_at (reasons_dropped c.args.marks.now c.loop-i.i (search rules) c.if-m-eq-KEPT.false) c.loop-i.invariant.1) c.requires)
+
+pub loop-i-preserved : goal.loop-i-preserved
+loop-i-preserved c =
+    let f = front_at (reasons_dropped c.args.marks.now c.loop-i.i (search rules) c.if-m-eq-KEPT.false) c.loop-i.invariant.1 in
+    (search rules, front_push f (front_room f c.requires))
+
+pub returns : goal.returns
+returns c = front_end (front_at (reasons_end c.args.marks.now c.loop-i.i (search rules)) c.loop-i.invariant.1)
