@@ -1,5 +1,6 @@
 // Running stitch along a line, back and forth: stroke.rs.
 #![tactic(auto)]
+
 ghost use Rattle.std.specs.Prelude.{◌≡◌, length};
 ghost use Rattle.stroke.specs.RunningAnswers.{running_sewn, running_output};
 
