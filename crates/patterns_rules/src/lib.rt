@@ -3,6 +3,7 @@
 
 // The least box around an outline: the source's `lo` is (left, top), its `hi` is (right, bottom).
 #![tactic(auto)]
+
 #[derive(Clone, Copy)]
 pub struct Bounds {
     pub left: f64,
