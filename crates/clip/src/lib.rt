@@ -1,5 +1,6 @@
 // The parts of a line that lie inside an outline, for a line of any length and any numbers: the source's clip_inside.
 #![tactic(auto)]
+
 ghost use Rattle.std.specs.Prelude.{◌≡◌, ◌+◌, ◌*◌, ◌≤◌, length};
 ghost use Rattle.seqs.specs.Slices.{put};
 ghost use Rattle.refusal.specs.Refusal.{DONE};
