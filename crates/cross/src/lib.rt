@@ -1,5 +1,6 @@
 // Cross stitch on a grid that all badges share: bounds, cells, and rows of half-crosses out and back. Every f64 goes in, NaN and infinities too.
 #![tactic(auto)]
+
 mod cells;
 mod counting;
 mod grid;

@@ -1,0 +1,24 @@
+-- `put_runs` meets its contract: the runs of the cells from i on are still to be written. Assumes nothing.
+use native.Mathlib.Omega.{arith}
+use native.Mathlib.Nat.{pos_of_ne-zero}
+use mathlib.Core.List.{◌++◌}
+use Prim.Native.Nat.{◌-◌, ◌*◌, ◌^◌, ◌≤◌, ◌<◌}
+use lib.ListN.{length, take}
+use Rattle.seqs.specs.Front.{Front, front_from}
+use Rattle.seqs.specs.Wrote.{put_room}
+use Rattle.geom.specs.Outline.{rings}
+use Rattle.geom.specs.Sewing.{flat}
+use Rattle.rules.specs.Calls.{sewn_points, sewn_ends}
+use Rattle.rules.specs.CallLaws.{ends_length}
+use Rattle.patterns_rules.specs.Patterns.{row_lines}
+use Rattle.cross.specs.Cells.{lines_in}
+use Rattle.cross.specs.RowLaws.{lines_start, lines_none, lines_ended}
+use Rattle.cross.proofs.Turns.{run_room, run_put, stop_room, stop_put, rows_put}
+use borrow.Author.Rules.{rules}
+use Rattle.cross.proofs.writing.put_runs.Given as goal
+
+abbrev pub invariant-loop-i : goal.invariant-loop-i
+invariant-loop-i l = (l.i ≤ l.g.columns) × Front l.initial.out l.out (2 * l.at) (flat (sewn_points (lines_in (rings l.corners l.ends) l.rule l.g l.y l.i))) (take (2 * l.initial.at) l.initial.out ++ flat (sewn_points (row_lines (rings l.corners l.ends) l.rule l.g l.y))) × Front l.initial.stops l.stops l.s (sewn_ends l.at (lines_in (rings l.corners l.ends) l.rule l.g l.y l.i)) (take l.initial.s l.initial.stops ++ sewn_ends l.initial.at (row_lines (rings l.corners l.ends) l.rule l.g l.y)) × (length l.initial.out < 2 ^ 64) × (length l.initial.stops < 2 ^ 64)
+
+abbrev pub decreases-loop-i : goal.decreases-loop-i
+decreases-loop-i l = l.g.columns - l.i
