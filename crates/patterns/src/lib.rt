@@ -1,5 +1,6 @@
 // Document 01's face of patterns.rs: bounds, clipping and cross stitch. The first check that applies answers, and a refusal writes nothing.
 #![tactic(auto)]
+
 ghost use Rattle.std.specs.Prelude.{◌≡◌, length};
 ghost use Rattle.patterns_rules.specs.Answers.{bounds_answer, clip_said, clip_points, clip_ends, cross_said, cross_points, cross_ends};
 ghost use Rattle.patterns.specs.Said.{said_box};
