@@ -156,6 +156,7 @@ module _ (g : Lattice) (link : ℕ → ℕ → Bool) where
     start_visits k w = elim (either (is_free w.free k)) [ inl t ↦ rw t (walk_starts k w.free w.seed) | inr f ↦ rw f f ]
 
     all_visit : {k : ℕ} (l : List ℕ) (w : Walks) → Memᴰ k l → Visited (fold (start_at g link) w l).free k
+    all_visit [] w m = elim m [ ]
     all_visit {k} (a ∷ l) w (Memᴰ.head e) = all_stay l (start_at g link a w) k (rw (ap (λ b. start_at g link b w) (sym e)) (start_visits k w))
     all_visit (a ∷ l) w (Memᴰ.tail m) = all_visit l (start_at g link a w) m
 

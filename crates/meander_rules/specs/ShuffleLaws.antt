@@ -15,6 +15,7 @@ pub record Stands (a : ℕ) (l : List ℕ) : Type 0 where
   pub is : get_or l at 0 ≡ a
 
 pub stands : {a : ℕ} (l : List ℕ) → Memᴰ a l → Stands a l
+stands [] m = elim m [ ]
 stands (b ∷ l) (Memᴰ.head e) = record { at = 0; low = omega arith; is = sym e }
 stands (b ∷ l) (Memᴰ.tail m) = let s = stands l m in record { at = suc s.at; low = omega (arith, s.low); is = s.is }
 

@@ -2,6 +2,7 @@
 
 // The grid: where its first point stands, how far apart its points are, and how many there are either way; none with no corners.
 #![tactic(auto)]
+
 #[derive(Clone, Copy)]
 pub struct Lattice {
     pub left: f64,
