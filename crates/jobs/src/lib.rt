@@ -1,5 +1,6 @@
 // Everything of the program `fill` but the fill: a job read from its bytes, and the lines that are printed.
 #![tactic(auto)]
+
 mod frame;
 pub mod job;
 pub mod job2;

@@ -1,0 +1,12 @@
+use borrow.Author.Tests.{lt-ltb, le-ltb}
+use Rattle.jobs.specs.Text.{glyph}
+use borrow.Author.Rules.{rules}
+use Rattle.jobs.proofs.line.glyph.Goals as goal
+
+pub returns-then-d-lt10 : goal.returns-then-d-lt10
+unfolding glyph
+returns-then-d-lt10 c = rw (lt-ltb _ 10 c.if-d-lt10.true)
+
+pub returns : goal.returns
+unfolding glyph
+returns c = rw (le-ltb _ 10 c.if-d-lt10.false)

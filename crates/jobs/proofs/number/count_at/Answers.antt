@@ -1,0 +1,7 @@
+use Rattle.jobs.specs.Job.{number, count}
+use borrow.Author.Rules.{rules}
+use Rattle.jobs.proofs.number.count_at.Goals as goal
+
+pub returns : goal.returns
+unfolding number count
+returns c = c.number_at.ensures
