@@ -1,5 +1,6 @@
 // The machines' sheet book: each cloth's settings, kept as bytes in one lent list. Request [13].
 #![tactic(auto)]
+
 mod fetching;
 mod framing;
 mod keeping;

@@ -1,0 +1,16 @@
+-- The invariant: what is left is as good as the whole, and the size of the sheet that is reached.
+use mathlib.Core.Path.{◌≡◌, refl, sym, ◌∙◌}
+use Prim.Native.Nat.{◌+◌, ◌-◌, ◌≤◌}
+use native.Mathlib.Omega.{arith}
+use lib.ListN.{length, drop}
+use Rattle.seqs.specs.Tests.{passed, failed}
+use Rattle.book.specs.Book.{size, good_book}
+use Rattle.book.specs.BookLaws.{size_five, good_bad, good_twice, good_next, good_end}
+use borrow.Author.Rules.{rules}
+use Rattle.book.proofs.framing.good_book.Given as goal
+
+abbrev pub invariant-loop-n : goal.invariant-loop-n
+invariant-loop-n l = (good_book (drop l.at l.s) ≡ good_book l.s) × (l.n ≡ size (drop l.at l.s)) × (l.at + l.n ≤ length l.s)
+
+abbrev pub decreases-loop-n : goal.decreases-loop-n
+decreases-loop-n l = length l.s - l.at

@@ -1,0 +1,15 @@
+-- The invariant: from the place on, the end is the same.
+use mathlib.Core.Path.{◌≡◌, sym, ◌∙◌}
+use Prim.Native.Nat.{◌+◌, ◌-◌, ◌≤◌}
+use native.Mathlib.Omega.{arith}
+use lib.ListN.{length, drop}
+use Rattle.book.specs.Book.{size, sheets, joined}
+use Rattle.book.specs.KeepLaws.{end_on, end_here}
+use borrow.Author.Rules.{rules}
+use Rattle.book.proofs.walk.book_end.Given as goal
+
+abbrev pub invariant-loop-n : goal.invariant-loop-n
+invariant-loop-n l = (l.at + length (joined (sheets (drop l.at l.s))) ≡ length (joined (sheets l.s))) × (l.n ≡ size (drop l.at l.s)) × (l.at + l.n ≤ length l.s)
+
+abbrev pub decreases-loop-n : goal.decreases-loop-n
+decreases-loop-n l = length l.s - l.at
