@@ -1,5 +1,6 @@
 // The walks of a meander in a lent slice of whole numbers: the random source, the ways on from a grid point, and every walk, one behind the other. Every f64 goes in, NaN and infinities too.
 #![tactic(auto)]
+
 pub mod grid;
 pub mod random;
 pub mod slice;
