@@ -1,5 +1,6 @@
 // The stitches along the walks of a meander, streamed: smoothing, resampling and clipping, point by point, counted first and then written. There is no room for a line between.
 #![tactic(auto)]
+
 ghost use Rattle.std.specs.Prelude.{◌≡◌, true, ◌<◌, length};
 ghost use Rattle.geom.specs.Outline.{cut, rings, rising};
 ghost use Rattle.outlines.specs.Heights.{Measured};

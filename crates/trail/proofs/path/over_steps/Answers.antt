@@ -1,0 +1,60 @@
+-- `over_steps` meets its contract: the points ahead of c are to come, where the path's point before k stands at a. Assumes nothing.
+use mathlib.Core.Path.{◌≡◌, sym, ap, ◌∙◌}
+use Prim.Native.Nat.{◌-◌, ◌≤◌}
+use native.Mathlib.Omega.{arith}
+use lib.ListN.{length, get_or}
+use Rattle.geom.specs.Point.{lerp}
+use Rattle.geom.specs.Outline.{rings}
+use Rattle.outlines.specs.Inside.{point_inside}
+use Rattle.meander_rules.specs.Meander.{place}
+use Rattle.trail.specs.Trail.{on_to, ahead}
+use Rattle.trail.specs.Parts.{Going, going_start}
+use Rattle.trail.specs.Along.{three_tenths, seven_tenths, turn_on, turn_last}
+use borrow.Author.Rules.{rules}
+use Rattle.trail.proofs.path.over_steps.Goals as goal
+
+pub place-a-requires : goal.place-a-requires
+place-a-requires c = c.requires.1
+
+pub loop-k-init : goal.loop-k-init
+loop-k-init c =
+    let a = c.args in
+    let p = place a.g (get_or a.path.now 0 0) in
+    (search rules, search rules, rw c.place-a.ensures (going_start (on_to (rings a.corners.now a.ends.now) a.rule) a.s a.out.now a.stops.now (ahead a.g a.len a.path.now p p 1) (search rules) (search rules) (omega (arith, c.well_formed)) (omega (arith, c.well_formed))), c.requires.3)
+
+pub place-b-requires : goal.place-b-requires
+place-b-requires c = c.requires.1
+
+pub over_piece-half-requires : goal.over_piece-half-requires
+over_piece-half-requires c = (c.requires.0, c.loop-k.invariant.3)
+
+pub over_piece-pen-requires : goal.over_piece-pen-requires
+over_piece-pen-requires c = (c.requires.0, c.over_piece-half.ensures.1)
+
+pub overflow_add-k : goal.overflow_add-k
+overflow_add-k c = omega (arith, c.loop-k-test.true, c.loop-k.invariant.1, c.well_formed)
+
+pub loop-k-smaller : goal.loop-k-smaller
+loop-k-smaller c = omega (arith, c.loop-k-test.true, c.loop-k.invariant.1, c.well_formed)
+
+pub loop-k-preserved : goal.loop-k-preserved
+loop-k-preserved c =
+    let a = c.args in
+    let l = c.loop-k in
+    let b = c.place-b.result in
+    (search rules, omega (arith, c.loop-k-test.true), turn_on (rings a.corners.now a.ends.now) a.rule a.g a.len a.path.now l.c l.a l.k l.invariant.2 c.loop-k-test.true c.place-b.ensures (c.lerp-l.ensures ∙ ap (lerp l.a b) (sym three_tenths)) (c.lerp-r.ensures ∙ ap (lerp l.a b) (sym seven_tenths)) c.over_piece-half.ensures.0 c.over_piece-pen.ensures.0, c.over_piece-pen.ensures.1)
+
+pub over_piece-requires : goal.over_piece-requires
+over_piece-requires c = (c.requires.0, c.loop-k.invariant.3)
+
+pub shape_of-out : goal.shape_of-out
+shape_of-out c = c.over_piece.ensures.0.points.size ∙ c.loop-k.invariant.2.sewed.points.size
+
+pub shape_of-stops : goal.shape_of-stops
+shape_of-stops c = c.over_piece.ensures.0.stops.size ∙ c.loop-k.invariant.2.sewed.stops.size
+
+pub returns : goal.returns
+returns c =
+    let a = c.args in
+    let l = c.loop-k in
+    turn_last (rings a.corners.now a.ends.now) a.rule a.g a.len a.path.now l.c l.a l.k l.invariant.2 (search rules) c.over_piece.ensures.0

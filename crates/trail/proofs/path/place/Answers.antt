@@ -1,0 +1,8 @@
+-- `place` meets its contract. Assumes nothing.
+use Rattle.meander_rules.specs.Meander.{place}
+use borrow.Author.Rules.{rules}
+use Rattle.trail.proofs.path.place.Goals as goal
+
+pub returns : goal.returns
+unfolding place
+returns c = rw (c.of_u64.ensures, c.of_u64-2.ensures)
