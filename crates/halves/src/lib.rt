@@ -1,5 +1,6 @@
 // Document 02's two halves of a column, each a call of its own: the underlay, which tells whether the thread ends at the far end, and the top, which is told.
 #![tactic(auto)]
+
 ghost use Rattle.std.specs.Prelude.{◌≡◌, length};
 ghost use Rattle.halves.specs.Answers.{underlaid, underlay_said, underlay_output, underlay_work, top_sewn, top_output, top_work};
 

@@ -1,0 +1,31 @@
+-- `sew_underlay` meets its contract: what is counted is what the room is compared with. Assumes nothing.
+use mathlib.Core.Path.{refl, sym, ◌∙◌}
+use native.Mathlib.Omega.{arith}
+use lib.ListN.{length}
+use Rattle.satinrules.specs.Column.{underlay}
+use Rattle.satinrules.specs.Calls.{rails_of}
+use Rattle.satin.specs.UnderlayLaws.{underlay_count_lem}
+use Rattle.halves.specs.SewingLaws.{too_many, has_room, all_fit}
+use borrow.Author.Rules.{rules}
+use Rattle.halves.proofs.under.sew_underlay.Goals as goal
+
+pub count_underlay-points-requires : goal.count_underlay-points-requires
+count_underlay-points-requires c = (c.requires.1.small_n, c.requires.1.small_m)
+
+pub returns-then-points-out : goal.returns-then-points-out
+returns-then-points-out c =
+    let a = c.args in
+    let e = c.count_underlay-points.ensures ∙ sym (underlay_count_lem a.g c.requires.1.run c.requires.1.zigzag) in
+    rw (too_many (underlay (rails_of a.a.now a.b.now a.sync.now) a.g) (length a.out.now) e c.if-points-out.true) (refl, refl, refl)
+
+pub put_underlay-requires : goal.put_underlay-requires
+put_underlay-requires c =
+    let a = c.args in
+    let e = c.count_underlay-points.ensures ∙ sym (underlay_count_lem a.g c.requires.1.run c.requires.1.zigzag) in
+    (c.requires.0, c.requires.1.run, c.requires.1.zigzag, omega (arith, c.requires.1.room_n), omega (arith, c.requires.1.room_m), has_room (underlay (rails_of a.a.now a.b.now a.sync.now) a.g) (length a.out.now) e c.if-points-out.false)
+
+pub returns : goal.returns
+returns c =
+    let a = c.args in
+    let e = c.count_underlay-points.ensures ∙ sym (underlay_count_lem a.g c.requires.1.run c.requires.1.zigzag) in
+    rw (all_fit (underlay (rails_of a.a.now a.b.now a.sync.now) a.g) (length a.out.now) e c.if-points-out.false) (rw e, c.put_underlay.ensures.0, c.put_underlay.ensures.2)

@@ -1,0 +1,60 @@
+-- `underlay_along` meets its contract: which of SIZE, WORK, ROOM and DONE it is. Assumes nothing.
+use mathlib.Core.Path.{refl, sym, ap, ◌∙◌}
+use lib.ListN.{length, length-replicate}
+use borrow.Author.Tests.{not-true, not-false}
+use Rattle.geom.specs.Outline.{points}
+use Rattle.satinrules.specs.Column.{underlay}
+use Rattle.satinrules.specs.Calls.{rails_of, underlay_steps, need}
+use Rattle.satin.specs.PassedLaws.{need_room}
+use Rattle.column.specs.Sized.{most_under}
+use Rattle.column.specs.SizedLaws.{sized_is, underlay_small, underlay_most}
+use Rattle.column.specs.HalvesLaws.{under_ready, worked_fitted}
+use Rattle.halves.specs.SewingLaws.{underlay_size, underlay_work_lem, underlay_fitted}
+use borrow.Author.Rules.{rules}
+use Rattle.halves.proofs.under.underlay_along.Goals as goal
+
+pub underlay_sized-requires : goal.underlay_sized-requires
+underlay_sized-requires c = c.total-length.ensures
+
+pub returns-then-not-underlay_sized : goal.returns-then-not-underlay_sized
+returns-then-not-underlay_sized c =
+    let a = c.args in
+    let s = sym (sized_is a.a.now a.b.now a.sync.now a.g c.ends_of-ends.ensures (underlay_steps a.g)) ∙ sym c.underlay_sized.ensures ∙ c.if-not-underlay_sized.true in
+    rw (underlay_size a.a.now a.b.now a.sync.now a.g (length a.work.now) (length a.out.now) c.requires.1 s) (refl, refl, refl)
+
+pub underlay_passes-u-requires : goal.underlay_passes-u-requires
+underlay_passes-u-requires c = (c.total-length.ensures, sym c.underlay_sized.ensures ∙ c.if-not-underlay_sized.false)
+
+pub need-requires : goal.need-requires
+need-requires c =
+    let a = c.args in
+    rw (c.underlay_most.ensures, c.underlay_passes-u.ensures) (underlay_small c.ends_of-ends.result (points a.sync.now) a.g (sym c.underlay_sized.ensures ∙ c.if-not-underlay_sized.false))
+
+pub shape_of-work-then-work-need : goal.shape_of-work-then-work-need
+shape_of-work-then-work-need c = ap length c.zero.ensures ∙ length-replicate _ _
+
+pub returns-then-work-need : goal.returns-then-work-need
+returns-then-work-need c =
+    let a = c.args in
+    let ok = sym c.underlay_sized.ensures ∙ c.if-not-underlay_sized.false in
+    let k = c.need.ensures ∙ ap (need (rails_of a.a.now a.b.now a.sync.now)) (c.underlay_most.ensures ∙ sym (underlay_most a.a.now a.b.now a.sync.now a.g c.ends_of-ends.ensures c.requires.1 c.underlay_passes-u.ensures ok)) in
+    rw (underlay_work_lem a.a.now a.b.now a.sync.now a.g (length a.work.now) (length a.out.now) c.requires.1 (sym (sized_is a.a.now a.b.now a.sync.now a.g c.ends_of-ends.ensures (underlay_steps a.g)) ∙ ok) (rw k at c.if-work-need.true)) (refl, refl, c.zero.ensures)
+
+pub sew_underlay-r-requires : goal.sew_underlay-r-requires
+sew_underlay-r-requires c =
+    let a = c.args in
+    let ok = sym c.underlay_sized.ensures ∙ c.if-not-underlay_sized.false in
+    let k = c.need.ensures ∙ ap (need (rails_of a.a.now a.b.now a.sync.now)) c.underlay_most.ensures in
+    (c.requires.0, under_ready a.a.now a.b.now a.sync.now a.g c.ends_of-ends.ensures c.requires.1 c.underlay_passes-u.ensures ok (length a.work.now) (need_room a.a.now a.b.now a.sync.now (most_under c.underlay_passes-u.result) (length a.work.now) (rw k at c.if-work-need.false)))
+
+pub shape_of-work : goal.shape_of-work
+shape_of-work c = ap length c.zero-2.ensures ∙ length-replicate _ _ ∙ c.sew_underlay-r.ensures.2
+
+pub returns : goal.returns
+returns c =
+    let a = c.args in
+    let ok = sym c.underlay_sized.ensures ∙ c.if-not-underlay_sized.false in
+    let k = c.need.ensures ∙ ap (need (rails_of a.a.now a.b.now a.sync.now)) (c.underlay_most.ensures ∙ sym (underlay_most a.a.now a.b.now a.sync.now a.g c.ends_of-ends.ensures c.requires.1 c.underlay_passes-u.ensures ok)) in
+    let h = c.sew_underlay-r.ensures in
+    rw (underlay_fitted a.a.now a.b.now a.sync.now a.g (length a.work.now) (length a.out.now) c.requires.1 (sym (sized_is a.a.now a.b.now a.sync.now a.g c.ends_of-ends.ensures (underlay_steps a.g)) ∙ ok) (rw k at c.if-work-need.false))
+    (h.0, h.1, (rw h.2 at c.zero-2.ensures) ∙ sym (worked_fitted (underlay (rails_of a.a.now a.b.now a.sync.now) a.g) (length a.out.now) a.work.now))
