@@ -1,5 +1,6 @@
 // Request [9]'s call: a wandering line for backgrounds. The first check that applies answers, and a refusal writes nothing.
 #![tactic(auto)]
+
 ghost use Rattle.std.specs.Prelude.{◌≡◌, length};
 ghost use Rattle.meander_rules.specs.Answers.{meander_said, meander_points, meander_ends, meander_wholes};
 
