@@ -1,5 +1,6 @@
 // A job filled: from its bytes to the points of its sections, with every refusal on the way; a version 2 job (request [6]) to those of both fills.
 #![tactic(auto)]
+
 ghost use Rattle.std.specs.Prelude.{◌≡◌, length};
 ghost use Rattle.jobs.specs.Job.{parsed, corners as Job·corners, ends as Job·ends, left as Job·left};
 ghost use Rattle.tatami.specs.Left.{left};
