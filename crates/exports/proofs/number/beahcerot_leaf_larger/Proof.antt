@@ -1,9 +1,0 @@
-use borrow.Author.Rules.{rules}
-use Rattle.exports.proofs.number.beahcerot_leaf_larger.Statement.{statement}
-use Rattle.exports.proofs.number.beahcerot_leaf_larger.Tie as tie
-
-returns : tie.Need-returns
-returns c = rw c.before.before.larger.ensures at c.store.ensures
-
-pub beahcerot_leaf_larger_spec : {M : Type 1} → statement M
-beahcerot_leaf_larger_spec = tie.close (tie.spec (λ c κs. search rules) (λ c κs. search rules) returns)
