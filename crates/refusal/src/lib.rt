@@ -2,6 +2,7 @@
 
 // None of the others applies.
 #![tactic(auto)]
+
 pub const DONE: u64 = 0;
 // Counts and framing.
 pub const LAYOUT: u64 = 1;

@@ -2,7 +2,6 @@ use mathlib.Core.Path.{sym}
 use Prim.Native.Nat.{◌+◌}
 use native.Mathlib.Omega.{arith}
 use Rattle.seqs.specs.Capped.{capped_in, capped_over}
-use borrow.Author.Rules.{rules}
 use Rattle.geom.proofs.sewing.add_within.Goals as goal
 
 pub returns-then-c-room : goal.returns-then-c-room

@@ -3,7 +3,6 @@ use mathlib.Core.List.{[], ◌∷◌}
 use lib.ListN.{length-set}
 use Rattle.seqs.specs.Front.{front_from, front_push2, front_end}
 use Rattle.geom.specs.Sewing.{flat}
-use borrow.Author.Rules.{rules}
 use Rattle.geom.proofs.sewing.put_point.Goals as goal
 
 pub bounds-out-at-2 : goal.bounds-out-at-2

@@ -1,6 +1,5 @@
 use mathlib.Core.Path.{◌∙◌}
 use Rattle.geom.specs.Steps.{along}
-use borrow.Author.Rules.{rules}
 use Rattle.geom.proofs.steps.along.Goals as goal
 
 pub returns : goal.returns

@@ -1,7 +1,6 @@
 use mathlib.Core.Path.{◌∙◌}
 use lib.Ieee.{of_bits}
 use Rattle.geom.specs.Steps.{steps}
-use borrow.Author.Rules.{rules}
 use Rattle.geom.proofs.steps.steps.Goals as goal
 
 pub returns : goal.returns

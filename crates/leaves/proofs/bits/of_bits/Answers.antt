@@ -1,5 +1,5 @@
 -- A NaN's pattern is the one above infinity's, the sign taken off.
-use Rattle.std.proofs.Common.{◌≡◌, ℕ, ◌*◌, ◌%◌, ◌^◌, ◌<◌, Bool, true, not, T, sym, refl, ◌∙◌, subst, true≢false, rules, le-ltb, lt-ltb}
+use Rattle.std.proofs.Common.{◌≡◌, ℕ, ◌*◌, ◌%◌, ◌^◌, ◌<◌, Bool, true, not, T, sym, refl, ◌∙◌, subst, true≢false, le-ltb, lt-ltb}
 use lib.Ieee.{Float, nan, inf, fin, binary64, is_nan, of_bits, div}
 use lib.Ieee.Bits.{nan_bits_is, nan_bits_above}
 use Rattle.leaves.proofs.bits.of_bits.Goals as goal

@@ -1,4 +1,4 @@
-use Rattle.std.proofs.Common.{◌≡◌, sym, refl, subst, rules}
+use Rattle.std.proofs.Common.{◌≡◌, sym, refl, subst}
 use lib.Ieee.{Float, binary64, to_bits}
 use Rattle.leaves.proofs.Total.{is_nan_lem, not_nan}
 use Rattle.leaves.proofs.bits.to_bits.Goals as goal

@@ -1,4 +1,4 @@
-use Rattle.std.proofs.Common.{ap, ◌∙◌, w64, rules}
+use Rattle.std.proofs.Common.{ap, ◌∙◌, w64}
 use lib.Ieee.{binary64, of_int}
 use Rattle.leaves.proofs.Range.{in_float_lem}
 use mir.ValLaws.{to_z-of_z}

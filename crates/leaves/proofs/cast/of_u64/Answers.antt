@@ -1,4 +1,4 @@
-use Rattle.std.proofs.Common.{T, sym, subst, rules, le-leb}
+use Rattle.std.proofs.Common.{T, sym, subst, le-leb}
 use lib.Ieee.{in_float}
 use Rattle.leaves.proofs.cast.of_u64.Goals as goal
 

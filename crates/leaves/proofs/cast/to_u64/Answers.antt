@@ -1,4 +1,4 @@
-use Rattle.std.proofs.Common.{T, sym, subst, rules}
+use Rattle.std.proofs.Common.{T, sym, subst}
 use lib.Ieee.{of_bits, neg}
 use Rattle.leaves.proofs.CastEnds.{count_max, count_min, count_nan}
 use Rattle.leaves.proofs.cast.to_u64.Goals as goal

@@ -1,4 +1,3 @@
-use Rattle.std.proofs.Common.{rules}
 use Rattle.leaves.specs.Answer.{magnitude_answer}
 use Rattle.leaves.proofs.OrderTests.{tested}
 use Rattle.leaves.proofs.checked.magnitude.Goals as goal

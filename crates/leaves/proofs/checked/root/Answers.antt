@@ -1,4 +1,4 @@
-use Rattle.std.proofs.Common.{◌≡◌, true, false, rules}
+use Rattle.std.proofs.Common.{◌≡◌, true, false}
 use lib.Ieee.{of_bits, le}
 use Rattle.numbers.specs.Num.{zero64}
 use Rattle.leaves.specs.Answer.{root_answer}

@@ -1,4 +1,3 @@
-use Rattle.std.proofs.Common.{rules}
 use Rattle.leaves.specs.Answer.{smaller_answer}
 use Rattle.leaves.proofs.OrderTests.{tested}
 use Rattle.leaves.proofs.checked.smaller.Goals as goal

@@ -1,4 +1,4 @@
-use Rattle.std.proofs.Common.{arith, rules}
+use Rattle.std.proofs.Common.{arith}
 use Rattle.leaves.proofs.Near.{root_large, near_down, near_up}
 use Rattle.leaves.proofs.digits.near_root.Goals as goal
 

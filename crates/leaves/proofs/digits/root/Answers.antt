@@ -1,6 +1,6 @@
 -- Each pattern has its answer: its own root, the root by digits, or none.
-use Rattle.std.proofs.Common.{◌≡◌, T, sym, ap, ◌∙◌, subst, arith, rules}
-use lib.Ieee.{Float, nan, binary64, of_bits, fits, div}
+use Rattle.std.proofs.Common.{◌≡◌, T, sym, ap, ◌∙◌, subst, arith}
+use lib.Ieee.{Float, nan, binary64, of_bits, div}
 use lib.Ieee.Bits.{to_bits-lt, of_bits-to_bits}
 use Rattle.numbers.specs.Root.{root}
 use Rattle.leaves.proofs.Total.{Own, not_nan, by_pattern, nan_own, zero_own, minus_zero_own, infinity_own, no_root}

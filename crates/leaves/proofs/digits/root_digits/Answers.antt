@@ -1,6 +1,6 @@
 -- `leaves::root_digits` meets its contract. The loop's invariant is `Going`. Assumes nothing.
-use Rattle.std.proofs.Common.{⊎_elim, arith}
-use Rattle.leaves.proofs.DigitSteps.{Going, halved, start, step_keep, step_take, done, same}
+use Rattle.std.proofs.Common.{arith}
+use Rattle.leaves.proofs.DigitSteps.{halved, start, step_keep, step_take, done, same}
 use Rattle.leaves.proofs.digits.root_digits.Goals as goal
 use Rattle.leaves.proofs.digits.root_digits.Goals.{then-x-t, else-x-t}
 

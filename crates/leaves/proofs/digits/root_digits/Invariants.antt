@@ -1,6 +1,5 @@
 -- `leaves::root_digits` meets its contract. The loop's invariant is `Going`. Assumes nothing.
-use Rattle.std.proofs.Common.{⊎_elim, arith}
-use Rattle.leaves.proofs.DigitSteps.{Going, halved, start, step_keep, step_take, done, same}
+use Rattle.leaves.proofs.DigitSteps.{Going}
 use Rattle.leaves.proofs.digits.root_digits.Given as goal
 
 abbrev pub invariant-loop-k : goal.invariant-loop-k

@@ -1,8 +1,8 @@
-use Rattle.std.proofs.Common.{◌≡◌, ℕ, ◌+◌, ◌-◌, ◌*◌, ◌/◌, ◌%◌, ◌^◌, sym, ap, ◌∙◌, arith, rules}
+use Rattle.std.proofs.Common.{◌≡◌, ℕ, ◌+◌, ◌-◌, ◌*◌, ◌/◌, ◌%◌, ◌^◌, sym, ap, ◌∙◌, arith}
 use lib.Count.{count_leading_zeros}
 use Rattle.numbers.specs.Root.{root, root_units}
 use Rattle.numbers.specs.Decode.{read_low, read_mid, root_odd}
-use Rattle.leaves.proofs.Near.{Moved, moved, moved_same, placed_same}
+use Rattle.leaves.proofs.Near.{moved, moved_same, placed_same}
 use Rattle.leaves.proofs.digits.root_pattern.Goals as goal
 
 pub overflow_sub-z : goal.overflow_sub-z

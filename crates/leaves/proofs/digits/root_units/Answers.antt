@@ -1,4 +1,4 @@
-use Rattle.std.proofs.Common.{◌≡◌, ℕ, ◌-◌, ◌*◌, ◌/◌, ◌%◌, ◌^◌, ◌≤◌, Bool, not, T, sym, ap, ◌∙◌, subst, mul-one, arith, rules}
+use Rattle.std.proofs.Common.{◌≡◌, ℕ, ◌-◌, ◌*◌, ◌/◌, ◌%◌, ◌^◌, ◌≤◌, Bool, not, T, sym, ap, ◌∙◌, subst, mul-one, arith}
 use lib.Ieee.{odd}
 use Rattle.numbers.specs.Root.{near_root}
 use Rattle.numbers.specs.Encode.{encode, encode_no_nan}

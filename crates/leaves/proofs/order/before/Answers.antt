@@ -1,4 +1,4 @@
-use Rattle.std.proofs.Common.{Bool, not, ◌&&◌, sym, ap, ◌∙◌, rules}
+use Rattle.std.proofs.Common.{Bool, not, ◌&&◌, sym, ap, ◌∙◌}
 use Rattle.numbers.specs.Order.{negative}
 use Rattle.leaves.proofs.OrderTests.{before_less, before_apart, before_level}
 use Rattle.leaves.proofs.order.before.Goals as goal

@@ -1,5 +1,4 @@
 use Rattle.std.proofs.Common.{T, sym, subst}
-use lib.Ieee.{binary64, fits}
 use Rattle.leaves.proofs.Total.{not_nan}
 use Rattle.leaves.proofs.OrderTests.{finite_field, nan_finite}
 use Rattle.leaves.proofs.order.is_finite.Goals as goal

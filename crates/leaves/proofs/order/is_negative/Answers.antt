@@ -1,5 +1,4 @@
 use Rattle.std.proofs.Common.{T, sym, subst}
-use lib.Ieee.{binary64, fits}
 use Rattle.leaves.proofs.Total.{not_nan}
 use Rattle.leaves.proofs.OrderTests.{sign_bit, nan_sign}
 use Rattle.leaves.proofs.order.is_negative.Goals as goal

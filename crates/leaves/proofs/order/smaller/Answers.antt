@@ -1,6 +1,5 @@
-use Rattle.numbers.specs.Order.{before, smaller}
+use Rattle.numbers.specs.Order.{smaller}
 use Rattle.leaves.proofs.OrderTests.{tested, is_nan_true, is_nan_false}
-use Rattle.std.proofs.Common.{rules}
 use Rattle.leaves.proofs.order.smaller.Goals as goal
 
 pub returns-then-a : goal.returns-then-a

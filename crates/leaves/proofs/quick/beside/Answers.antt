@@ -1,4 +1,4 @@
-use Rattle.std.proofs.Common.{ℕ, ◌+◌, ◌-◌, ◌^◌, cond, ltb, ap, ◌∙◌, arith, rules}
+use Rattle.std.proofs.Common.{ℕ, ◌+◌, ◌-◌, ◌^◌, cond, ltb, ap, ◌∙◌, arith}
 use Rattle.leaves.proofs.Tried.{beside_near}
 use Rattle.leaves.proofs.quick.beside.Goals as goal
 

@@ -1,4 +1,4 @@
-use Rattle.std.proofs.Common.{ℕ, ◌+◌, ◌*◌, ◌/◌, ◌%◌, ◌^◌, ◌≤◌, Bool, not, T, sym, ap, ◌∙◌, subst, arith, rules, le-ltb}
+use Rattle.std.proofs.Common.{ℕ, ◌+◌, ◌*◌, ◌/◌, ◌%◌, ◌^◌, ◌≤◌, Bool, not, T, sym, ap, ◌∙◌, subst, arith, le-ltb}
 use lib.Ieee.{binary64, to_bits}
 use lib.Ieee.Bits.{of_bits-to_bits, nan_bits_above}
 use Rattle.numbers.specs.Root.{near_root, root}

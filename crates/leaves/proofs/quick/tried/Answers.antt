@@ -1,4 +1,4 @@
-use Rattle.std.proofs.Common.{◌*◌, ◌/◌, ◌%◌, ◌^◌, mul-le-mul, arith, rules}
+use Rattle.std.proofs.Common.{◌*◌, ◌/◌, ◌%◌, ◌^◌, mul-le-mul, arith}
 use Rattle.leaves.proofs.Tried.{halves}
 use Rattle.leaves.proofs.quick.tried.Goals as goal
 

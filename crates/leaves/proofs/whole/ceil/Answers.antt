@@ -1,4 +1,4 @@
-use Rattle.std.proofs.Common.{Bool, not, ap, ◌∙◌, rules}
+use Rattle.std.proofs.Common.{Bool, not, ap, ◌∙◌}
 use Rattle.numbers.specs.Whole.{ceil, whole_of}
 use Rattle.leaves.proofs.whole.ceil.Goals as goal
 

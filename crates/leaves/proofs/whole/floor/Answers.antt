@@ -1,4 +1,4 @@
-use Rattle.std.proofs.Common.{Bool, ap, ◌∙◌, rules}
+use Rattle.std.proofs.Common.{Bool, ap, ◌∙◌}
 use Rattle.numbers.specs.Whole.{floor, whole_of}
 use Rattle.leaves.proofs.whole.floor.Goals as goal
 

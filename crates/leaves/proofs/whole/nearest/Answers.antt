@@ -1,4 +1,4 @@
-use Rattle.std.proofs.Common.{◌≡◌, true, false, T, pos, sym, subst, arith, rules}
+use Rattle.std.proofs.Common.{◌≡◌, true, false, T, pos, sym, subst, arith}
 use lib.Ieee.{fin, of_bits, lt, to_unsigned}
 use Rattle.numbers.specs.Num.{◌⊕◌}
 use Rattle.numbers.specs.Order.{magnitude}

@@ -1,4 +1,4 @@
-use Rattle.std.proofs.Common.{Bool, cond, sym, ap, rules}
+use Rattle.std.proofs.Common.{Bool, cond, sym, ap}
 use lib.Ieee.{neg}
 use Rattle.leaves.proofs.whole.signed.Goals as goal
 

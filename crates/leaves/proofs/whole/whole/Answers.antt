@@ -1,5 +1,5 @@
-use Rattle.std.proofs.Common.{Bool, T, sym, ap, ◌∙◌, subst, arith, rules}
-use lib.Ieee.{Float, binary64, fits, of_bits, lt}
+use Rattle.std.proofs.Common.{Bool, T, sym, ap, ◌∙◌, subst, arith}
+use lib.Ieee.{Float, of_bits, lt}
 use Rattle.numbers.specs.Whole.{whole_of}
 use Rattle.numbers.specs.WholeLaws.{whole_large, in_range, count_lt, returns_toward, returns_level, returns_away}
 use Rattle.leaves.proofs.whole.whole.Goals as goal

@@ -1,4 +1,3 @@
-use borrow.Author.Rules.{rules}
 use Rattle.geom.specs.Point.{dist}
 use Rattle.geom.proofs.point.P.dist.Goals as goal
 

@@ -1,4 +1,3 @@
-use borrow.Author.Rules.{rules}
 use Rattle.geom.specs.Point.{len}
 use Rattle.geom.proofs.point.P.len.Goals as goal
 

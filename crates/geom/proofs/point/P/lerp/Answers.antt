@@ -1,4 +1,3 @@
-use borrow.Author.Rules.{rules}
 use Rattle.geom.specs.Point.{lerp}
 use Rattle.geom.proofs.point.P.lerp.Goals as goal
 

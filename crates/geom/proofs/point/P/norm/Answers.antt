@@ -1,4 +1,3 @@
-use borrow.Author.Rules.{rules}
 use Rattle.geom.proofs.point.P.norm.Goals as goal
 
 pub towards-requires : goal.towards-requires

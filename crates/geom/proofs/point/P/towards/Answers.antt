@@ -1,7 +1,6 @@
 use mathlib.Core.Path.{◌≡◌}
 use mathlib.Core.Bool.{true, false}
 use lib.Ieee.{of_bits, round, lt}
-use borrow.Author.Rules.{rules}
 use Rattle.numbers.specs.Num.{literal}
 use Rattle.geom.specs.Point.{norm, tiny}
 use Rattle.geom.proofs.point.P.towards.Goals as goal
