@@ -1,8 +1,5 @@
-use mathlib.Core.Path.{◌≡◌, sym, ◌∙◌}
-use Prim.Native.Nat.{◌-◌, ◌≤◌}
-use lib.ListN.{length, drop}
+use mathlib.Core.Path.{sym, ◌∙◌}
 use borrow.Author.Tests.{lt-leb, le-leb}
-use Rattle.geom.specs.Outline.{rising}
 use Rattle.geom.specs.OutlineLaws.{rising_next, rising_none}
 use borrow.Author.Rules.{rules}
 use Rattle.limits.proofs.ends_rise.Goals as goal

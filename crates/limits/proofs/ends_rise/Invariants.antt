@@ -1,10 +1,7 @@
-use mathlib.Core.Path.{◌≡◌, sym, ◌∙◌}
+use mathlib.Core.Path.{◌≡◌}
 use Prim.Native.Nat.{◌-◌, ◌≤◌}
 use lib.ListN.{length, drop}
-use borrow.Author.Tests.{lt-leb, le-leb}
 use Rattle.geom.specs.Outline.{rising}
-use Rattle.geom.specs.OutlineLaws.{rising_next, rising_none}
-use borrow.Author.Rules.{rules}
 use Rattle.limits.proofs.ends_rise.Given as goal
 
 abbrev pub invariant-loop-k : goal.invariant-loop-k

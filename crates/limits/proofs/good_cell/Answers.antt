@@ -1,6 +1,5 @@
 use lib.Ieee.{of_bits, of_int, round}
 use Rattle.limits.specs.Limits.{good_cell}
-use borrow.Author.Rules.{rules}
 use Rattle.limits.proofs.good_cell.Goals as goal
 
 pub returns : goal.returns

@@ -1,6 +1,5 @@
 use lib.Ieee.{of_bits, of_int, round, neg}
 use Rattle.limits.specs.Limits.{good_inset}
-use borrow.Author.Rules.{rules}
 use Rattle.limits.proofs.good_inset.Goals as goal
 
 pub returns : goal.returns

@@ -2,7 +2,6 @@ use mathlib.Core.Path.{◌∙◌}
 use lib.Ieee.{of_bits, of_int, round, neg}
 use Rattle.limits.specs.Limits.{largest}
 use Rattle.limits.specs.LimitsLaws.{number_within}
-use borrow.Author.Rules.{rules}
 use Rattle.limits.proofs.good_number.Goals as goal
 
 pub returns : goal.returns

@@ -1,10 +1,4 @@
-use mathlib.Core.Path.{◌≡◌, sym, ◌∙◌}
-use mathlib.Core.Logic.{⊎_elim}
-use mathlib.Core.Bool.{◌&&◌}
-use Prim.Native.Nat.{◌-◌, ◌≤◌}
-use lib.ListN.{length, drop}
-use borrow.Author.Tests.{not-true, not-false}
-use Rattle.limits.specs.Limits.{good_numbers}
+use mathlib.Core.Path.{sym, ◌∙◌}
 use Rattle.limits.specs.LimitsLaws.{numbers_good, numbers_bad, numbers_end}
 use borrow.Author.Rules.{rules}
 use Rattle.limits.proofs.good_numbers.Goals as goal

@@ -1,12 +1,8 @@
-use mathlib.Core.Path.{◌≡◌, sym, ◌∙◌}
-use mathlib.Core.Logic.{⊎_elim}
+use mathlib.Core.Path.{◌≡◌}
 use mathlib.Core.Bool.{◌&&◌}
 use Prim.Native.Nat.{◌-◌, ◌≤◌}
 use lib.ListN.{length, drop}
-use borrow.Author.Tests.{not-true, not-false}
 use Rattle.limits.specs.Limits.{good_numbers}
-use Rattle.limits.specs.LimitsLaws.{numbers_good, numbers_bad, numbers_end}
-use borrow.Author.Rules.{rules}
 use Rattle.limits.proofs.good_numbers.Given as goal
 
 abbrev pub invariant-loop-i : goal.invariant-loop-i

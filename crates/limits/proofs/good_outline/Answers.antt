@@ -1,7 +1,6 @@
 use mathlib.Core.Bool.{and-false}
 use borrow.Author.Tests.{eq-eqb, ne_eqb, lt-leb, le-leb}
 use Rattle.limits.specs.Limits.{good_outline}
-use borrow.Author.Rules.{rules}
 use Rattle.limits.proofs.good_outline.Goals as goal
 
 pub returns-then-n-ne0 : goal.returns-then-n-ne0

@@ -1,6 +1,5 @@
 use mathlib.Core.Path.{sym, ◌∙◌}
 use Rattle.limits.specs.Limits.{good_point}
-use borrow.Author.Rules.{rules}
 use Rattle.limits.proofs.good_point.Goals as goal
 
 pub returns-then-good_number : goal.returns-then-good_number

@@ -2,7 +2,6 @@ use mathlib.Core.Path.{sym, ◌∙◌}
 use lib.Ieee.{of_bits, round}
 use Rattle.numbers.specs.Num.{literal}
 use Rattle.limits.specs.Limits.{good_turn}
-use borrow.Author.Rules.{rules}
 use Rattle.limits.proofs.good_turn.Goals as goal
 
 pub returns-then-is_finite-2 : goal.returns-then-is_finite-2

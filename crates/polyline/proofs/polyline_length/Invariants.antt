@@ -1,12 +1,9 @@
 -- `polyline_length` meets its contract: what the sum so far and the corners from i on come to is the answer. Assumes nothing.
-use mathlib.Core.Path.{◌≡◌, sym, ◌∙◌}
+use mathlib.Core.Path.{◌≡◌}
 use Prim.Native.Nat.{◌≤◌, ◌-◌}
 use lib.ListN.{length, drop}
-use lib.Ieee.{of_bits}
 use Rattle.geom.specs.Outline.{points}
 use Rattle.polyline.specs.Line.{length_from, polyline_length}
-use Rattle.polyline.specs.LineLaws.{length_none, length_start, length_next, length_end}
-use borrow.Author.Rules.{rules}
 use Rattle.polyline.proofs.polyline_length.Given as goal
 
 abbrev pub invariant-loop-i : goal.invariant-loop-i

@@ -1,20 +1,12 @@
 -- `put_pieces` meets its contract: the pieces of the corners from i on are to be written from `at` on. Assumes nothing.
 use Prim.Native.Nat.{◌-◌, ◌≤◌}
-use native.Mathlib.Omega.{arith}
-use mathlib.Core.Path.{◌∙◌}
 use mathlib.Core.List.{◌++◌}
 use lib.ListN.{length, take, drop}
-use Rattle.seqs.specs.Front.{Front, front_from, front_at}
-use Rattle.seqs.specs.Wrote.{put_end}
+use Rattle.seqs.specs.Front.{Front}
 use Rattle.geom.specs.Outline.{points}
 use Rattle.polyline.specs.Line.{pieces_from, pieces}
 use Rattle.geom.specs.Sewing.{flat}
-use Rattle.geom.specs.SewingLaws.{flat_none}
 use Rattle.polyline.specs.Cuts.{Told}
-use Rattle.polyline.specs.AlikeLaws.{squared}
-use Rattle.polyline.specs.LineLaws.{pieces_start, pieces_end}
-use Rattle.polyline.proofs.LineSteps.{piece_room, piece_put}
-use borrow.Author.Rules.{rules}
 use Rattle.polyline.proofs.put_pieces.Given as goal
 
 abbrev pub invariant-loop-i : goal.invariant-loop-i

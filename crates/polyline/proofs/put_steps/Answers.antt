@@ -1,10 +1,8 @@
 -- `put_steps` meets its contract: the ends of the steps from i on are to be written from `at` on, and then the corner. Assumes nothing.
-use mathlib.Core.Path.{◌≡◌, refl, ap, ◌∙◌}
-use Prim.Native.Nat.{◌+◌, ◌-◌, ◌*◌, ◌≤◌}
+use mathlib.Core.Path.{refl}
+use Prim.Native.Nat.{◌-◌}
 use native.Mathlib.Omega.{arith}
-use mathlib.Core.List.{◌++◌}
-use lib.ListN.{length, take}
-use Rattle.seqs.specs.Front.{Front, front_from, front_at}
+use Rattle.seqs.specs.Front.{front_from, front_at}
 use Rattle.seqs.specs.Wrote.{put_end}
 use Rattle.polyline.specs.Line.{steps_from}
 use Rattle.geom.specs.Sewing.{flat}

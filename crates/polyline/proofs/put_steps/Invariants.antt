@@ -1,17 +1,11 @@
 -- `put_steps` meets its contract: the ends of the steps from i on are to be written from `at` on, and then the corner. Assumes nothing.
-use mathlib.Core.Path.{◌≡◌, refl, ap, ◌∙◌}
+use mathlib.Core.Path.{◌≡◌}
 use Prim.Native.Nat.{◌+◌, ◌-◌, ◌*◌, ◌≤◌}
-use native.Mathlib.Omega.{arith}
 use mathlib.Core.List.{◌++◌}
-use lib.ListN.{length, take}
-use Rattle.seqs.specs.Front.{Front, front_from, front_at}
-use Rattle.seqs.specs.Wrote.{put_end}
+use lib.ListN.{take}
+use Rattle.seqs.specs.Front.{Front}
 use Rattle.polyline.specs.Line.{steps_from}
 use Rattle.geom.specs.Sewing.{flat}
-use Rattle.geom.specs.SewingLaws.{flat_none}
-use Rattle.polyline.specs.LineLaws.{steps_size, steps_none}
-use Rattle.polyline.proofs.LineSteps.{step_room, step_put, last_put}
-use borrow.Author.Rules.{rules}
 use Rattle.polyline.proofs.put_steps.Given as goal
 
 abbrev pub invariant-loop-i : goal.invariant-loop-i

@@ -5,7 +5,6 @@ use lib.ListN.{length}
 use Rattle.geom.specs.Outline.{points}
 use Rattle.polyline.specs.Line.{resample_keep_corners}
 use Rattle.geom.specs.SewingLaws.{not_fitted, counted, fits, is_fitted}
-use borrow.Author.Rules.{rules}
 use Rattle.polyline.proofs.resample_keep_corners.Goals as goal
 
 pub returns-then-points-room : goal.returns-then-points-room

@@ -1,10 +1,10 @@
-use mathlib.Core.Path.{◌≡◌, refl, ap, ◌∙◌}
-use Prim.Native.Nat.{◌-◌, ◌/◌, ◌%◌, ◌+◌, ◌*◌, ◌≤◌}
+use mathlib.Core.Path.{refl, ap, ◌∙◌}
+use Prim.Native.Nat.{◌/◌, ◌*◌}
 use native.Mathlib.Omega.{arith}
 use lib.ListN.{length}
 use Rattle.geom.specs.Outline.{points}
 use Rattle.geom.specs.OutlineLaws.{points_length}
-use Rattle.outlines.proofs.Blocks.{Known, known_all, known_full, known_most, known_next, three_size}
+use Rattle.outlines.proofs.Blocks.{known_all, known_full, known_most, known_next, three_size}
 use borrow.Author.Rules.{rules}
 use Rattle.outlines.proofs.heights.block_heights.Goals as goal
 

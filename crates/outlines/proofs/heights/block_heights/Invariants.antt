@@ -1,11 +1,8 @@
-use mathlib.Core.Path.{◌≡◌, refl, ap, ◌∙◌}
-use Prim.Native.Nat.{◌-◌, ◌/◌, ◌%◌, ◌+◌, ◌*◌, ◌≤◌}
-use native.Mathlib.Omega.{arith}
+use mathlib.Core.Path.{◌≡◌}
+use Prim.Native.Nat.{◌-◌, ◌/◌, ◌%◌, ◌+◌, ◌≤◌}
 use lib.ListN.{length}
 use Rattle.geom.specs.Outline.{points}
-use Rattle.geom.specs.OutlineLaws.{points_length}
-use Rattle.outlines.proofs.Blocks.{Known, known_all, known_full, known_most, known_next, three_size}
-use borrow.Author.Rules.{rules}
+use Rattle.outlines.proofs.Blocks.{Known}
 use Rattle.outlines.proofs.heights.block_heights.Given as goal
 
 abbrev pub invariant-loop-k : goal.invariant-loop-k

@@ -1,9 +1,9 @@
-use Prim.Native.Nat.{◌-◌, ◌≤◌, ◌+◌}
+use Prim.Native.Nat.{◌+◌}
 use native.Mathlib.Omega.{arith}
-use lib.ListN.{length, drop}
+use lib.ListN.{drop}
 use Rattle.geom.specs.Outline.{points}
 use Rattle.geom.specs.OutlineLaws.{corner_at, points_next, points_end}
-use Rattle.outlines.proofs.Blocks.{Tried, tried_start, tried_next, tried_end}
+use Rattle.outlines.proofs.Blocks.{tried_start, tried_next, tried_end}
 use borrow.Author.Rules.{rules}
 use Rattle.outlines.proofs.heights.height_of.Goals as goal
 

@@ -1,10 +1,7 @@
-use Prim.Native.Nat.{◌-◌, ◌≤◌, ◌+◌}
-use native.Mathlib.Omega.{arith}
+use Prim.Native.Nat.{◌-◌, ◌≤◌}
 use lib.ListN.{length, drop}
 use Rattle.geom.specs.Outline.{points}
-use Rattle.geom.specs.OutlineLaws.{corner_at, points_next, points_end}
-use Rattle.outlines.proofs.Blocks.{Tried, tried_start, tried_next, tried_end}
-use borrow.Author.Rules.{rules}
+use Rattle.outlines.proofs.Blocks.{Tried}
 use Rattle.outlines.proofs.heights.height_of.Given as goal
 
 abbrev pub invariant-loop-i : goal.invariant-loop-i

@@ -1,6 +1,5 @@
 use native.Mathlib.Omega.{arith}
 use lib.ListN.{length-set}
-use borrow.Author.Rules.{rules}
 use Rattle.outlines.proofs.heights.put_height.Goals as goal
 
 pub bounds-t-to-2 : goal.bounds-t-to-2

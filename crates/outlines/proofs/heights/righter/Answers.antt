@@ -2,7 +2,6 @@ use mathlib.Core.Path.{◌≡◌}
 use mathlib.Core.Bool.{true}
 use lib.Ieee.{le, div, of_bits}
 use Rattle.outlines.proofs.Blocks.{right_stays, right_moves, right_nan}
-use borrow.Author.Rules.{rules}
 use Rattle.outlines.proofs.heights.righter.Goals as goal
 
 pub returns-then-x-right : goal.returns-then-x-right

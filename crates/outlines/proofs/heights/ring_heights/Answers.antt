@@ -1,12 +1,10 @@
-use mathlib.Core.Path.{◌≡◌, refl, ap, ◌∙◌}
-use mathlib.Core.Bool.{true}
-use Prim.Native.Nat.{◌-◌, ◌/◌, ◌+◌, ◌*◌, ◌≤◌}
+use mathlib.Core.Path.{refl, ap, ◌∙◌}
+use Prim.Native.Nat.{◌/◌, ◌+◌, ◌*◌}
 use native.Mathlib.Omega.{arith}
-use lib.ListN.{length, drop}
-use Rattle.geom.specs.Outline.{points, rising}
+use lib.ListN.{length}
+use Rattle.geom.specs.Outline.{points}
 use Rattle.geom.specs.OutlineLaws.{rising_turn}
-use Rattle.outlines.specs.Heights.{Heights, start_of}
-use Rattle.outlines.proofs.Blocks.{KnownRings, rings_all, rings_full, heights_kept, rings_next, start_next, three_size}
+use Rattle.outlines.proofs.Blocks.{rings_all, rings_full, heights_kept, rings_next, start_next, three_size}
 use borrow.Author.Rules.{rules}
 use Rattle.outlines.proofs.heights.ring_heights.Goals as goal
 

@@ -1,13 +1,10 @@
-use mathlib.Core.Path.{◌≡◌, refl, ap, ◌∙◌}
+use mathlib.Core.Path.{◌≡◌}
 use mathlib.Core.Bool.{true}
-use Prim.Native.Nat.{◌-◌, ◌/◌, ◌+◌, ◌*◌, ◌≤◌}
-use native.Mathlib.Omega.{arith}
+use Prim.Native.Nat.{◌-◌, ◌/◌, ◌≤◌}
 use lib.ListN.{length, drop}
 use Rattle.geom.specs.Outline.{points, rising}
-use Rattle.geom.specs.OutlineLaws.{rising_turn}
 use Rattle.outlines.specs.Heights.{Heights, start_of}
-use Rattle.outlines.proofs.Blocks.{KnownRings, rings_all, rings_full, heights_kept, rings_next, start_next, three_size}
-use borrow.Author.Rules.{rules}
+use Rattle.outlines.proofs.Blocks.{KnownRings}
 use Rattle.outlines.proofs.heights.ring_heights.Given as goal
 
 abbrev pub invariant-loop-k : goal.invariant-loop-k

@@ -2,7 +2,6 @@ use mathlib.Core.Path.{◌∙◌, ap}
 use mir.Syntax.{w64}
 use mir.ValLaws.{to_z-of_z}
 use Rattle.outlines.specs.Inside.{inside, point_inside}
-use borrow.Author.Rules.{rules}
 use Rattle.outlines.proofs.inside.point_inside.Goals as goal
 
 pub returns : goal.returns

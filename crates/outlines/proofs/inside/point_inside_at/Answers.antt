@@ -6,7 +6,6 @@ use mir.Syntax.{w64}
 use mir.ValLaws.{to_z-of_z}
 use Rattle.outlines.specs.Inside.{inside, point_inside}
 use Rattle.outlines.specs.Sides.{side_sum}
-use borrow.Author.Rules.{rules}
 use Rattle.outlines.proofs.inside.point_inside_at.Goals as goal
 
 pub returns-then-n-s : goal.returns-then-n-s

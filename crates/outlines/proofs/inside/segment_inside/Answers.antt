@@ -1,6 +1,5 @@
 use Rattle.geom.specs.Outline.{points}
 use Rattle.outlines.proofs.Blocks.{no_heights, no_rings}
-use borrow.Author.Rules.{rules}
 use Rattle.outlines.proofs.inside.segment_inside.Goals as goal
 
 pub segment_inside_by-requires : goal.segment_inside_by-requires

@@ -1,5 +1,5 @@
-use mathlib.Core.Path.{◌≡◌, sym, ◌∙◌, ap}
-use Prim.Native.Nat.{ℕ, ◌-◌, ◌≤◌}
+use mathlib.Core.Path.{sym, ◌∙◌, ap}
+use Prim.Native.Nat.{ℕ, ◌-◌}
 use Rattle.geom.specs.Outline.{rings}
 use Rattle.outlines.specs.Inside.{steps_inside, segment_inside}
 use Rattle.outlines.proofs.Loops.{steps_on, steps_out, steps_end}

@@ -1,9 +1,7 @@
-use mathlib.Core.Path.{◌≡◌, sym, ◌∙◌, ap}
-use Prim.Native.Nat.{ℕ, ◌-◌, ◌≤◌}
+use mathlib.Core.Path.{◌≡◌}
+use Prim.Native.Nat.{◌-◌, ◌≤◌}
 use Rattle.geom.specs.Outline.{rings}
 use Rattle.outlines.specs.Inside.{steps_inside, segment_inside}
-use Rattle.outlines.proofs.Loops.{steps_on, steps_out, steps_end}
-use borrow.Author.Rules.{rules}
 use Rattle.outlines.proofs.inside.segment_inside_by.Given as goal
 
 abbrev pub invariant-loop-i : goal.invariant-loop-i

@@ -1,12 +1,11 @@
-use mathlib.Core.Path.{◌≡◌, sym, ◌∙◌}
-use Prim.Native.Nat.{◌+◌, ◌-◌, ◌*◌, ◌≤◌}
+use mathlib.Core.Path.{sym, ◌∙◌}
+use Prim.Native.Nat.{◌+◌, ◌≤◌}
 use native.Mathlib.Omega.{arith}
-use lib.ListN.{length, drop}
-use lib.IntN.{nat_abs, ◌+ℤ◌, +ℤ_idl}
+use lib.ListN.{length}
+use lib.IntN.{nat_abs, +ℤ_idl}
 use mir.Syntax.{w64}
 use mir.Val.{to_z}
 use Rattle.outlines.specs.WindingLaws.{edge_small}
-use Rattle.outlines.specs.Sides.{side_sum}
 use Rattle.outlines.proofs.Loops.{sum}
 use Rattle.outlines.proofs.Gathering.{sum_next, sum_end}
 use borrow.Author.Rules.{rules}

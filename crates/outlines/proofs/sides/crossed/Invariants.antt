@@ -1,15 +1,8 @@
-use mathlib.Core.Path.{◌≡◌, sym, ◌∙◌}
-use Prim.Native.Nat.{◌+◌, ◌-◌, ◌*◌, ◌≤◌}
-use native.Mathlib.Omega.{arith}
+use mathlib.Core.Path.{◌≡◌}
+use Prim.Native.Nat.{◌-◌, ◌*◌, ◌≤◌}
 use lib.ListN.{length, drop}
-use lib.IntN.{nat_abs, ◌+ℤ◌, +ℤ_idl}
-use mir.Syntax.{w64}
-use mir.Val.{to_z}
-use Rattle.outlines.specs.WindingLaws.{edge_small}
+use lib.IntN.{nat_abs, ◌+ℤ◌}
 use Rattle.outlines.specs.Sides.{side_sum}
-use Rattle.outlines.proofs.Loops.{sum}
-use Rattle.outlines.proofs.Gathering.{sum_next, sum_end}
-use borrow.Author.Rules.{rules}
 use Rattle.outlines.proofs.sides.crossed.Given as goal
 
 abbrev pub invariant-loop-i : goal.invariant-loop-i

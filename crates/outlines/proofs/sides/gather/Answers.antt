@@ -1,12 +1,9 @@
-use mathlib.Core.Path.{◌≡◌}
-use mathlib.Core.Bool.{true}
-use Prim.Native.Nat.{◌-◌, ◌*◌, ◌/◌, ◌≤◌}
+use Prim.Native.Nat.{◌-◌, ◌*◌, ◌/◌}
 use native.Mathlib.Omega.{arith}
 use lib.ListN.{length, drop, get_or, length-take}
-use Rattle.seqs.specs.Wrote.{Run, run_start}
-use Rattle.geom.specs.Outline.{points, cut, rings, rising}
+use Rattle.seqs.specs.Wrote.{run_start}
+use Rattle.geom.specs.Outline.{rings}
 use Rattle.geom.specs.OutlineLaws.{rising_turn}
-use Rattle.outlines.specs.Sides.{sides}
 use Rattle.outlines.proofs.Loops.{part_even}
 use Rattle.outlines.proofs.Gathering.{rings_turn, rings_ended, gathered}
 use borrow.Author.Rules.{rules}

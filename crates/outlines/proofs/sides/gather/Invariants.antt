@@ -1,15 +1,10 @@
 use mathlib.Core.Path.{◌≡◌}
 use mathlib.Core.Bool.{true}
 use Prim.Native.Nat.{◌-◌, ◌*◌, ◌/◌, ◌≤◌}
-use native.Mathlib.Omega.{arith}
-use lib.ListN.{length, drop, get_or, length-take}
-use Rattle.seqs.specs.Wrote.{Run, run_start}
+use lib.ListN.{length, drop}
+use Rattle.seqs.specs.Wrote.{Run}
 use Rattle.geom.specs.Outline.{points, cut, rings, rising}
-use Rattle.geom.specs.OutlineLaws.{rising_turn}
 use Rattle.outlines.specs.Sides.{sides}
-use Rattle.outlines.proofs.Loops.{part_even}
-use Rattle.outlines.proofs.Gathering.{rings_turn, rings_ended, gathered}
-use borrow.Author.Rules.{rules}
 use Rattle.outlines.proofs.sides.gather.Given as goal
 
 abbrev pub invariant-loop-k : goal.invariant-loop-k

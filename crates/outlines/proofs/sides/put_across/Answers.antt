@@ -4,7 +4,6 @@ use native.Mathlib.Omega.{arith}
 use lib.Ieee.{le}
 use Rattle.seqs.specs.Wrote.{wrote_none}
 use Rattle.outlines.specs.Sides.{across}
-use borrow.Author.Rules.{rules}
 use Rattle.outlines.proofs.sides.put_across.Goals as goal
 
 pub returns-then-b-y : goal.returns-then-b-y

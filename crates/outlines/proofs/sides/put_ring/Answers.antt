@@ -1,11 +1,6 @@
-use Prim.Native.Nat.{◌+◌, ◌-◌, ◌*◌, ◌≤◌}
 use native.Mathlib.Omega.{arith}
-use lib.ListN.{length, drop}
-use Rattle.seqs.specs.Wrote.{Run, run_start, run_at, run_end, wrote_none}
-use Rattle.geom.specs.Outline.{points}
-use Rattle.outlines.specs.Sides.{chain_sides, ring_sides}
+use Rattle.seqs.specs.Wrote.{run_start, run_at, run_end, wrote_none}
 use Rattle.outlines.proofs.Gathering.{ring_none, ring_begins, chain_turn, chain_ended}
-use borrow.Author.Rules.{rules}
 use Rattle.outlines.proofs.sides.put_ring.Goals as goal
 
 pub returns-then-n-lt6 : goal.returns-then-n-lt6

@@ -1,11 +1,8 @@
 use Prim.Native.Nat.{◌+◌, ◌-◌, ◌*◌, ◌≤◌}
-use native.Mathlib.Omega.{arith}
 use lib.ListN.{length, drop}
-use Rattle.seqs.specs.Wrote.{Run, run_start, run_at, run_end, wrote_none}
+use Rattle.seqs.specs.Wrote.{Run}
 use Rattle.geom.specs.Outline.{points}
 use Rattle.outlines.specs.Sides.{chain_sides, ring_sides}
-use Rattle.outlines.proofs.Gathering.{ring_none, ring_begins, chain_turn, chain_ended}
-use borrow.Author.Rules.{rules}
 use Rattle.outlines.proofs.sides.put_ring.Given as goal
 
 abbrev pub invariant-loop-i : goal.invariant-loop-i

@@ -3,7 +3,6 @@ use native.Mathlib.Omega.{arith}
 use lib.ListN.{length-set}
 use Rattle.seqs.specs.Wrote.{wrote_stores, wrote_full}
 use Rattle.outlines.specs.Sides.{side}
-use borrow.Author.Rules.{rules}
 use Rattle.outlines.proofs.sides.put_side.Goals as goal
 
 pub returns-then-out-k : goal.returns-then-out-k

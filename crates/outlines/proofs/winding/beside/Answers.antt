@@ -4,7 +4,6 @@ use Prim.Native.Nat.{◌*◌, ◌+◌}
 use lib.ListN.{get_or}
 use lib.Ieee.{nan, lt, le}
 use Rattle.outlines.proofs.Blocks.{beside_above, beside_below, beside_left}
-use borrow.Author.Rules.{rules}
 use Rattle.outlines.proofs.winding.beside.Goals as goal
 
 pub returns-then-p-t : goal.returns-then-p-t

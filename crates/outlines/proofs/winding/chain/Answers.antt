@@ -1,13 +1,10 @@
-use mathlib.Core.Path.{◌≡◌, sym, ◌∙◌}
-use Prim.Native.Nat.{◌+◌, ◌-◌, ◌*◌, ◌/◌, ◌≤◌}
+use mathlib.Core.Path.{sym, ◌∙◌}
+use Prim.Native.Nat.{◌+◌, ◌/◌, ◌≤◌}
 use native.Mathlib.Omega.{arith}
-use lib.ListN.{length, drop}
-use lib.IntN.{nat_abs, ◌+ℤ◌, +ℤ_idl}
+use lib.ListN.{length}
+use lib.IntN.{nat_abs, +ℤ_idl}
 use mir.Syntax.{w64}
 use mir.Val.{to_z}
-use Rattle.geom.specs.Outline.{points}
-use Rattle.outlines.specs.Winding.{edges}
-use Rattle.outlines.specs.Runs.{chain}
 use Rattle.outlines.specs.WindingLaws.{edge_small}
 use Rattle.outlines.proofs.Loops.{sum, chain_start, chain_short, edges_next, edges_end}
 use borrow.Author.Rules.{rules}

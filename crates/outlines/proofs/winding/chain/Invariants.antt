@@ -1,16 +1,10 @@
-use mathlib.Core.Path.{◌≡◌, sym, ◌∙◌}
-use Prim.Native.Nat.{◌+◌, ◌-◌, ◌*◌, ◌/◌, ◌≤◌}
-use native.Mathlib.Omega.{arith}
+use mathlib.Core.Path.{◌≡◌}
+use Prim.Native.Nat.{◌-◌, ◌*◌, ◌≤◌}
 use lib.ListN.{length, drop}
-use lib.IntN.{nat_abs, ◌+ℤ◌, +ℤ_idl}
-use mir.Syntax.{w64}
-use mir.Val.{to_z}
+use lib.IntN.{nat_abs, ◌+ℤ◌}
 use Rattle.geom.specs.Outline.{points}
 use Rattle.outlines.specs.Winding.{edges}
 use Rattle.outlines.specs.Runs.{chain}
-use Rattle.outlines.specs.WindingLaws.{edge_small}
-use Rattle.outlines.proofs.Loops.{sum, chain_start, chain_short, edges_next, edges_end}
-use borrow.Author.Rules.{rules}
 use Rattle.outlines.proofs.winding.chain.Given as goal
 
 abbrev pub invariant-loop-i : goal.invariant-loop-i

@@ -4,7 +4,6 @@ use lib.Ieee.{of_bits, lt}
 use Rattle.numbers.specs.Num.{zero64}
 use Rattle.geom.specs.Point.{minus, cross}
 use Rattle.outlines.specs.Winding.{edge}
-use borrow.Author.Rules.{rules}
 use Rattle.outlines.proofs.winding.edge.Goals as goal
 
 pub returns-then-cross : goal.returns-then-cross

@@ -1,12 +1,8 @@
 use mathlib.Core.Path.{◌≡◌}
-use mathlib.Core.Logic.{⊎_elim}
 use Prim.Native.Nat.{◌+◌, ◌-◌, ◌≤◌}
-use native.Mathlib.Omega.{arith}
 use lib.ListN.{length, drop}
 use Rattle.geom.specs.Outline.{points}
 use Rattle.outlines.specs.Runs.{lows}
-use Rattle.outlines.proofs.Loops.{lows_next, lows_end, none_of_them, all_of_them}
-use borrow.Author.Rules.{rules}
 use Rattle.outlines.proofs.winding.one_side.Given as goal
 
 abbrev pub invariant-loop-i : goal.invariant-loop-i

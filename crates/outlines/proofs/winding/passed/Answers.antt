@@ -2,7 +2,6 @@ use mathlib.Core.Path.{sym, ◌∙◌}
 use native.Mathlib.Omega.{arith}
 use Rattle.geom.specs.Outline.{points}
 use Rattle.outlines.specs.WindingLaws.{one_side_adds}
-use borrow.Author.Rules.{rules}
 use Rattle.outlines.proofs.winding.passed.Goals as goal
 
 pub returns-then-b-t : goal.returns-then-b-t

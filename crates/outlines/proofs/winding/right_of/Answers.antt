@@ -1,7 +1,6 @@
 use mathlib.Core.Path.{◌≡◌, sym}
 use mathlib.Core.Bool.{true, true≢false}
 use lib.Ieee.{lt}
-use borrow.Author.Rules.{rules}
 use Rattle.outlines.proofs.winding.right_of.Goals as goal
 
 pub returns-then-near : goal.returns-then-near

@@ -1,18 +1,10 @@
-use mathlib.Core.Path.{◌≡◌, sym, ◌∙◌}
+use mathlib.Core.Path.{◌≡◌}
 use Prim.Native.Nat.{◌+◌, ◌-◌, ◌/◌, ◌≤◌, ◌<◌}
-use native.Mathlib.Omega.{arith}
 use lib.ListN.{length, drop}
 use lib.IntN.{nat_abs, ◌+ℤ◌}
-use mir.Syntax.{w64}
-use mir.Val.{to_z}
-use Rattle.seqs.specs.Signed.{back}
 use Rattle.geom.specs.Outline.{points}
 use Rattle.outlines.specs.Winding.{ring}
 use Rattle.outlines.specs.Runs.{chain}
-use Rattle.outlines.specs.WindingLaws.{edge_small}
-use Rattle.outlines.proofs.Loops.{sum, ring_short, ring_start, ring_next, ring_end, run_small}
-use Rattle.outlines.proofs.Blocks.{part_block, ring_beside}
-use borrow.Author.Rules.{rules}
 use Rattle.outlines.proofs.winding.ring.Given as goal
 
 abbrev pub invariant-loop-k : goal.invariant-loop-k

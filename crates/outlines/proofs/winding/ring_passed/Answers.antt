@@ -1,7 +1,6 @@
 use mathlib.Core.Path.{sym}
 use mathlib.Core.Bool.{true≢false}
 use native.Mathlib.Omega.{arith}
-use borrow.Author.Rules.{rules}
 use Rattle.outlines.proofs.winding.ring_passed.Goals as goal
 
 pub returns-then-k-m : goal.returns-then-k-m

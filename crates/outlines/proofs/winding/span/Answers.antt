@@ -1,5 +1,4 @@
 use mathlib.Core.Path.{sym}
-use borrow.Author.Rules.{rules}
 use Rattle.outlines.proofs.winding.span.Goals as goal
 
 pub returns-then-passed : goal.returns-then-passed

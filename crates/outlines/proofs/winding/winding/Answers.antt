@@ -3,7 +3,6 @@ use mir.Syntax.{w64}
 use mir.ValLaws.{to_z-of_z}
 use Rattle.geom.specs.Outline.{points}
 use Rattle.outlines.proofs.Blocks.{no_heights, no_rings}
-use borrow.Author.Rules.{rules}
 use Rattle.outlines.proofs.winding.winding.Goals as goal
 
 pub winding_by-requires : goal.winding_by-requires

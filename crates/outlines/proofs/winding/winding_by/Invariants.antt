@@ -1,18 +1,11 @@
-use mathlib.Core.Path.{◌≡◌, refl, sym, ◌∙◌}
+use mathlib.Core.Path.{◌≡◌}
 use mathlib.Core.Bool.{true}
-use Prim.Native.Nat.{◌-◌, ◌/◌, ◌*◌, ◌≤◌}
-use native.Mathlib.Omega.{arith}
-use lib.ListN.{length, drop, get_or, length-take}
-use lib.IntN.{nat_abs, ◌+ℤ◌, +ℤ_idl}
-use mir.Syntax.{w64}
-use mir.Val.{to_z}
+use Prim.Native.Nat.{◌-◌, ◌/◌, ◌≤◌}
+use lib.ListN.{length, drop}
+use lib.IntN.{nat_abs, ◌+ℤ◌}
 use Rattle.geom.specs.Outline.{points, cut, rings, rising}
-use Rattle.geom.specs.OutlineLaws.{rising_turn}
 use Rattle.outlines.specs.Winding.{winding}
 use Rattle.outlines.specs.Heights.{start_of}
-use Rattle.outlines.proofs.Loops.{sum, rings_next, rings_end, part_even, part_small}
-use Rattle.outlines.proofs.Blocks.{ring_heights, ring_block, start_next}
-use borrow.Author.Rules.{rules}
 use Rattle.outlines.proofs.winding.winding_by.Given as goal
 
 abbrev pub invariant-loop-k : goal.invariant-loop-k

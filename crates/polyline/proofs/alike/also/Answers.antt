@@ -1,5 +1,4 @@
 -- `also` meets its contract: k and what s tells are both the steps, or 0. Assumes nothing.
-use borrow.Author.Rules.{rules}
 use Rattle.polyline.proofs.alike.also.Goals as goal
 
 pub returns-then-k-n : goal.returns-then-k-n

@@ -1,5 +1,4 @@
 -- `known` meets its contract: each of the three tells the steps, or 0. Assumes nothing.
-use borrow.Author.Rules.{rules}
 use Rattle.polyline.proofs.alike.known.Goals as goal
 
 pub returns : goal.returns

@@ -1,7 +1,6 @@
 -- `like` meets its contract: what is told of pieces like s. Assumes nothing.
 use mathlib.Core.Path.{sym, subst}
 use lib.Dec.{T}
-use borrow.Author.Rules.{rules}
 use Rattle.polyline.proofs.alike.like.Goals as goal
 
 pub returns-then-d-s : goal.returns-then-d-s

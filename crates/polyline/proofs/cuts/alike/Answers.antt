@@ -6,7 +6,6 @@ use Rattle.numbers.specs.Order.{finite}
 use Rattle.numbers.specs.Laws.{holds}
 use Rattle.polyline.specs.LineLaws.{shortest_bits}
 use Rattle.polyline.specs.CutsLaws.{alike_steps}
-use borrow.Author.Rules.{rules}
 use Rattle.polyline.proofs.cuts.alike.Goals as goal
 
 pub returns-then-of_u64-lo : goal.returns-then-of_u64-lo

@@ -1,7 +1,6 @@
 -- `piece_steps` meets its contract: the squared length under the root of `dist`. Assumes nothing.
 use mathlib.Core.Path.{◌∙◌}
 use Rattle.polyline.specs.AlikeLaws.{squared}
-use borrow.Author.Rules.{rules}
 use Rattle.polyline.proofs.cuts.piece_steps.Goals as goal
 
 pub returns : goal.returns

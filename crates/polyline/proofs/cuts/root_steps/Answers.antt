@@ -1,6 +1,5 @@
 -- `root_steps` meets its contract: the steps of the root. Assumes nothing.
 use mathlib.Core.Path.{◌∙◌}
-use borrow.Author.Rules.{rules}
 use Rattle.polyline.proofs.cuts.root_steps.Goals as goal
 
 pub returns : goal.returns

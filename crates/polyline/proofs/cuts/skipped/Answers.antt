@@ -6,7 +6,6 @@ use Rattle.numbers.specs.Num.{literal}
 use Rattle.numbers.specs.Laws.{holds}
 use Rattle.polyline.specs.LineLaws.{shortest_bits}
 use Rattle.polyline.specs.CutsLaws.{not_shortest}
-use borrow.Author.Rules.{rules}
 use Rattle.polyline.proofs.cuts.skipped.Goals as goal
 
 pub returns-then-d : goal.returns-then-d

@@ -1,7 +1,6 @@
 -- `square_steps` meets its contract: none where it is skipped, otherwise by the root. Assumes nothing.
 use mathlib.Core.Path.{sym, ◌∙◌}
 use Rattle.polyline.specs.Cuts.{square_steps}
-use borrow.Author.Rules.{rules}
 use Rattle.polyline.proofs.cuts.square_steps.Goals as goal
 
 pub returns-then-skipped : goal.returns-then-skipped
