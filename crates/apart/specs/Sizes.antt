@@ -41,9 +41,9 @@ use Rattle.rules.specs.Accepted.{Checked}
 use Rattle.rules.specs.Alls.{all_both, all_mapped, all_unmapped, all_parts, all_reverse}
 use Rattle.rules.specs.Edges.{Good, edges_good}
 use Rattle.rules.specs.Rows.{Fair, row_within}
-use Rattle.rules.specs.FillSections.{pieces_of_rows}
-use Rattle.rules.specs.Pieces.{Small, spans_small, shrink_within, met_fair}
-use Rattle.rules.specs.Stitches.{len_within, len_least, offset_within, end_within, m0_whole, m1_whole}
+use Rattle.rules.proofs.FillSections.{pieces_of_rows}
+use Rattle.rules.proofs.Pieces.{Small, spans_small, shrink_within, met_fair}
+use Rattle.rules.proofs.Stitches.{len_within, len_least, offset_within, end_within, m0_whole, m1_whole}
 use Rattle.apart.specs.Values.{parts, rounded_size, within_rounded, rounded_close}
 use Rattle.apart.specs.Distances.{Length, length_is, Point}
 

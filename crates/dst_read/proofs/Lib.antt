@@ -1,1 +1,3 @@
 mod Turns
+pub mod RecordLaws
+pub mod Back

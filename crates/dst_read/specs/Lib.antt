@@ -7,6 +7,4 @@ pub mod Lifted
 pub mod Told
 pub mod LiftedLaws
 pub mod ReadingLaws
-pub mod RecordLaws
-pub mod Back
 pub mod Examples

@@ -4,7 +4,7 @@ use Rattle.std.proofs.Common.{arith}
 use Rattle.geom.specs.Outline.{points}
 use Rattle.geom.specs.OutlineLaws.{points_length}
 use Rattle.rules.specs.declared.Settings.{Settings}
-use Rattle.rules.specs.Counts.{ring_edges_lem}
+use Rattle.rules.proofs.Counts.{ring_edges_lem}
 use Rattle.edges.specs.Table.{ring_edges}
 
 pub flat_few : (g : Settings) (l : List Float) → length (ring_edges g (points l)) ≤ length l / 2

@@ -12,7 +12,7 @@ use Rattle.rules.specs.declared.Settings.{Settings}
 use Rattle.rules.specs.Fill.{edges, row_numbers, row_list, need_floats, need_wholes, roomed, refusal}
 use Rattle.rules.specs.Accepted.{Accepted, laid_out}
 use Rattle.rules.specs.CallLaws.{gate_through, room_told}
-use Rattle.rules.specs.Counts.{edges_of_corners, pieces_half}
+use Rattle.rules.proofs.Counts.{edges_of_corners, pieces_half}
 use Rattle.fillroom.specs.Room.{room_for, room_of}
 
 half_le : (a b : ℕ) → a ≤ b → a / 2 ≤ b / 2

@@ -14,9 +14,9 @@ use Rattle.limits.specs.LimitsLaws.{outline_layout}
 use Rattle.rules.specs.declared.Edge.{Edge}
 use Rattle.rules.specs.Fill.{edges, row_list, need_floats, need_wholes}
 use Rattle.rules.specs.PieceTable.{piece_block, row_counts}
-use Rattle.rules.specs.Sections.{entries_pieces}
+use Rattle.rules.proofs.Sections.{entries_pieces}
 use Rattle.rules.specs.Accepted.{laid_out, checked}
-use Rattle.rules.specs.Theorems.{edges_bounded, pieces_bounded}
+use Rattle.rules.proofs.Theorems.{edges_bounded, pieces_bounded}
 use Rattle.edges.specs.Table.{edge_block, edge_place, edges_in, Outline}
 use Rattle.edges.specs.TableLaws.{built}
 use Rattle.edges.specs.Span.{Spanned}

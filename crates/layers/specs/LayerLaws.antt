@@ -13,9 +13,9 @@ use Rattle.limits.specs.Limits.{most_rows, good_outline, good_numbers, good_turn
 use Rattle.rules.specs.declared.Settings.{Settings}
 use Rattle.rules.specs.declared.Edge.{Edge}
 use Rattle.rules.specs.Fill.{turned, edges, row_numbers, row_list, good_settings, gate}
-use Rattle.rules.specs.Counts.{edges_few}
+use Rattle.rules.proofs.Counts.{edges_few}
 use Rattle.rules.specs.CallLaws.{room_told}
-use Rattle.rules.specs.Theorems.{pieces_bounded}
+use Rattle.rules.proofs.Theorems.{pieces_bounded}
 use Rattle.edges.specs.Table.{edge_block, edge_place, edges_in}
 use Rattle.edges.specs.TableLaws.{in_length, built}
 use Rattle.sweep.specs.Swept.{numbers, swept_all}

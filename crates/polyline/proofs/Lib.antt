@@ -1,1 +1,3 @@
 mod LineSteps
+pub mod LineLaws
+pub mod Corners

@@ -20,7 +20,7 @@ use Rattle.geom.specs.OutlineLaws.{corner_at}
 use Rattle.geom.specs.Sewing.{flat}
 use Rattle.geom.specs.SewingLaws.{flat_append, points_room, points_put}
 use Rattle.polyline.specs.Line.{piece_steps, steps_from, step_ends, piece, pieces_from, pieces}
-use Rattle.polyline.specs.LineLaws.{steps_size, steps_next, ends_last, piece_length, pieces_next}
+use Rattle.polyline.proofs.LineLaws.{steps_size, steps_next, ends_last, piece_length, pieces_next}
 
 -- the end of step i of n, not the last, is next
 module _ {d₀ d : List Float} {at : ℕ} (k : ℕ) (a b : P) (n i : ℕ)

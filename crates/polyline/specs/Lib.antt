@@ -1,7 +1,5 @@
 -- What the contracts of `polyline` cite (Line, Cuts), and what is proved of it.
 pub mod Line
-pub mod LineLaws
-pub mod Corners
 pub mod Cuts
 pub mod CutsLaws
 pub mod AlikeLaws

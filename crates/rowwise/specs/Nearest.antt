@@ -6,7 +6,7 @@ use Rattle.numbers.specs.Num.{zero64}
 use Rattle.numbers.specs.Order.{before}
 use Rattle.seqs.specs.Lists.{sift, fold, All}
 use Rattle.rules.specs.declared.Edge.{Edge}
-use Rattle.rules.specs.Gathered.{Number, gathered}
+use Rattle.rules.proofs.Gathered.{Number, gathered}
 use Rattle.rules.specs.Drawn.{crosses, cross_at, unsorted}
 use Rattle.sweep.specs.declared.piece.Cut.{Cut}
 use Rattle.sweep.specs.declared.piece.Span.{Span}

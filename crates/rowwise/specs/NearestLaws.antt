@@ -17,7 +17,7 @@ use Rattle.seqs.specs.Sift.{sift_pass, sift_all, sift_absorb}
 use Rattle.rules.specs.declared.Edge.{Edge}
 use Rattle.geom.specs.declared.point.P.{P}
 use Rattle.rules.specs.Fill.{dir, edge_of, kept_side}
-use Rattle.rules.specs.Gathered.{Number, Numbers, Rel, less, more, same, rel, not_self, one_way, through, add, gathered}
+use Rattle.rules.proofs.Gathered.{Number, Numbers, Rel, less, more, same, rel, not_self, one_way, through, add, gathered}
 use Rattle.rules.specs.Drawn.{crosses, cross_at, unsorted}
 use Rattle.edges.specs.declared.side.KeptSide.{KeptSide}
 use Rattle.edges.specs.declared.side.KeptSide.TheVariants.{Kept}

@@ -33,10 +33,11 @@ use Rattle.rules.specs.Accepted.{Checked, checked}
 use Rattle.rules.specs.Alls.{all_mapped}
 use Rattle.rules.specs.Edges.{within_number, edges_good}
 use Rattle.rules.specs.Rows.{Fair, Plain, plain_none, plain_good, edge_within}
-use Rattle.rules.specs.Pieces.{met_fair}
-use Rattle.rules.specs.Sections.{entries_pieces}
-use Rattle.rules.specs.Gathered.{gathered}
-use Rattle.rules.specs.Drawn.{crosses, cross_at, unsorted, Sound, crossings_gathered}
+use Rattle.rules.proofs.Pieces.{met_fair}
+use Rattle.rules.proofs.Sections.{entries_pieces}
+use Rattle.rules.proofs.Gathered.{gathered}
+use Rattle.rules.specs.Drawn.{crosses, cross_at, unsorted}
+use Rattle.rules.proofs.Drawn.{Sound, crossings_gathered}
 use Rattle.edges.specs.declared.rows.Rows.{Rows}
 use Rattle.edges.specs.Span.{row_number}
 use Rattle.sweep.specs.declared.piece.Cut.{Cut}

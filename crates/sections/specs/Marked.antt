@@ -23,7 +23,7 @@ use Rattle.rules.specs.Alls.{all_mapped, sorted_mapped}
 use Rattle.rules.specs.Fill.{overlap, link_ends, connects, only, joined, joins, entry, after, row_entries, begun, entries}
 use Rattle.rules.specs.Rise.{Onward, Rise}
 use Rattle.rules.specs.PieceTable.{piece_block, row_counts}
-use Rattle.rules.specs.Sections.{entries_pieces}
+use Rattle.rules.proofs.Sections.{entries_pieces}
 use Rattle.sections.specs.Mark.{piece_in, flat_marks, row_end, rows_in, marked_in, Laid}
 use Rattle.sections.specs.RowEnds.{read_in, drop_in}
 

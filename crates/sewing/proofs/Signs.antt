@@ -18,7 +18,7 @@ use Rattle.seqs.specs.Tests.{clash, either}
 use Rattle.seqs.specs.Slices.{capped}
 use Rattle.seqs.specs.Capped.{capped_in, capped_cases}
 use Rattle.rules.specs.Fill.{how_many, rem_euclid}
-use Rattle.rules.specs.Stitches.{rem_below}
+use Rattle.rules.proofs.Stitches.{rem_below}
 use Rattle.sewing.specs.declared.row.Row.{Row}
 use Rattle.sewing.specs.Sewing.{most, Near, row_number, phase_of}
 

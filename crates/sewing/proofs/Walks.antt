@@ -24,7 +24,7 @@ use Rattle.geom.specs.Sewing.{flat}
 use Rattle.geom.specs.SewingLaws.{flat_length, flat_append}
 use Rattle.rules.specs.Fill.{cycle, rem_euclid, offset, needles, row_points, section, sewn}
 use Rattle.rules.specs.Calls.{sewn_ends}
-use Rattle.rules.specs.Stitches.{rem_below}
+use Rattle.rules.proofs.Stitches.{rem_below}
 use Rattle.sewing.specs.declared.Field.{Field}
 use Rattle.sewing.specs.declared.row.Row.{Row}
 use Rattle.sewing.specs.declared.piece.Thread.{Thread}

@@ -1,1 +1,2 @@
 mod PassSteps
+pub mod Closing

@@ -1,7 +1,7 @@
 -- Each pass goes through the line's corners, bit for bit, the second and every other one backwards. Assumes nothing.
 use Prim.Native.Nat.{ℕ, zero, suc, ◌+◌, ◌-◌, ◌%◌}
 use Rattle.std.proofs.Common.{arith, ap, ◌∙◌}
-use Rattle.std.specs.Prelude.{◌≡◌, Bool, length, drop, Float}
+use Rattle.std.specs.Prelude.{◌≡◌, Bool, drop, Float}
 use Rattle.std.proofs.Math.Path.{refl}
 use Rattle.std.proofs.Math.Bool.{true, false}
 use mathlib.Core.List.{List, [], ◌∷◌, ◌++◌, append_assoc, reverse, reverse-cons, reverse-append}
@@ -9,7 +9,7 @@ use Rattle.std.proofs.Math.Dec.{eqb}
 use Rattle.std.proofs.lemmas.List.{length-reverse, drop-append-le}
 use Rattle.geom.specs.declared.point.P.{P}
 use Rattle.polyline.specs.Line.{pieces_from, pieces, resample_keep_corners}
-use Rattle.polyline.specs.Corners.{kept_from, kept_corners, Through, pieces_through, corners_kept}
+use Rattle.polyline.proofs.Corners.{kept_from, kept_corners, Through, pieces_through, corners_kept}
 use Rattle.stroke.specs.Running.{base, one_pass, pass, passes_from, running}
 
 through_itself : (l : List P) → Through l l

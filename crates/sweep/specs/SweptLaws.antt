@@ -17,7 +17,7 @@ use Rattle.rules.specs.declared.Settings.{Settings}
 use Rattle.rules.specs.declared.Edge.{Edge}
 use Rattle.rules.specs.declared.Piece.{Piece}
 use Rattle.rules.specs.Fill.{row_at, crossing, merged, crossings, spans, piece_of, wide, pieces_at}
-use Rattle.rules.specs.Merged.{merged_length}
+use Rattle.rules.proofs.Merged.{merged_length}
 use Rattle.rules.specs.PieceTable.{piece_block}
 use Rattle.edges.specs.declared.rows.Rows.{Rows}
 use Rattle.edges.specs.Span.{row_number}

@@ -18,12 +18,12 @@ use Rattle.rules.specs.declared.Entry.{Entry}
 use Rattle.rules.specs.Fill.{edges, row_numbers, pieces_of, met, begun, entries, row_list}
 use Rattle.rules.specs.Calls.{listed_floats, listed_rows, listed_sections}
 use Rattle.rules.specs.PieceTable.{piece_block, row_counts}
-use Rattle.rules.specs.Sections.{entries_pieces}
-use Rattle.rules.specs.FillSections.{numbers_below}
+use Rattle.rules.proofs.Sections.{entries_pieces}
+use Rattle.rules.proofs.FillSections.{numbers_below}
 use Rattle.rules.specs.Accepted.{checked}
 use Rattle.rules.specs.Rise.{Rise}
 use Rattle.rules.specs.Alls.{all_reverse, all_mapped}
-use Rattle.rules.specs.Theorems.{rows_rise, pieces_bounded}
+use Rattle.rules.proofs.Theorems.{rows_rise, pieces_bounded}
 use Rattle.edges.specs.declared.rows.Rows.{Rows}
 use Rattle.edges.specs.Span.{row_number}
 use Rattle.sweep.specs.Swept.{waiting, numbers, swept_all}

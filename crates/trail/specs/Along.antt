@@ -20,7 +20,7 @@ use Rattle.geom.specs.Sewing.{flat}
 use Rattle.outlines.specs.declared.rule.FillRule.{FillRule}
 use Rattle.outlines.specs.Inside.{point_inside}
 use Rattle.polyline.specs.Line.{piece_steps, steps_from, step_ends, piece, pieces_from, pieces, resample_keep_corners}
-use Rattle.polyline.specs.LineLaws.{steps_next, steps_none, ends_last}
+use Rattle.polyline.proofs.LineLaws.{steps_next, steps_none, ends_last}
 use Rattle.rules.specs.Calls.{sewn_points, sewn_ends}
 use Rattle.rules.specs.CallLaws.{ends_length}
 use Rattle.patterns_rules.specs.declared.Count.{Count}

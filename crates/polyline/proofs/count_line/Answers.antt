@@ -6,7 +6,7 @@ use Rattle.seqs.specs.Capped.{capped_in, capped_over}
 use Rattle.geom.specs.Outline.{points}
 use Rattle.polyline.specs.Line.{resample_keep_corners}
 use Rattle.polyline.specs.AlikeLaws.{squared}
-use Rattle.polyline.specs.LineLaws.{pieces_end, count_start, count_next, resample_none}
+use Rattle.polyline.proofs.LineLaws.{pieces_end, count_start, count_next, resample_none}
 use borrow.Author.Rules.{rules}
 use Rattle.polyline.proofs.count_line.Goals as goal
 

@@ -1,7 +1,7 @@
 -- `polyline_length` meets its contract: what the sum so far and the corners from i on come to is the answer. Assumes nothing.
 use mathlib.Core.Path.{sym, ◌∙◌}
 use lib.Ieee.{of_bits}
-use Rattle.polyline.specs.LineLaws.{length_none, length_start, length_next, length_end}
+use Rattle.polyline.proofs.LineLaws.{length_none, length_start, length_next, length_end}
 use borrow.Author.Rules.{rules}
 use Rattle.polyline.proofs.polyline_length.Goals as goal
 

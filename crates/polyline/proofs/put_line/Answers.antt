@@ -6,7 +6,7 @@ use lib.ListN.{length}
 use Rattle.seqs.specs.Put.{put_none, put_length}
 use Rattle.geom.specs.Sewing.{flat}
 use Rattle.geom.specs.SewingLaws.{flat_none, flat_length}
-use Rattle.polyline.specs.LineLaws.{resample_none, line_size, line_put}
+use Rattle.polyline.proofs.LineLaws.{resample_none, line_size, line_put}
 use borrow.Author.Rules.{rules}
 use Rattle.polyline.proofs.put_line.Goals as goal
 

@@ -8,7 +8,7 @@ use Rattle.polyline.specs.Line.{pieces}
 use Rattle.geom.specs.Sewing.{flat}
 use Rattle.geom.specs.SewingLaws.{flat_none}
 use Rattle.polyline.specs.AlikeLaws.{squared}
-use Rattle.polyline.specs.LineLaws.{pieces_start, pieces_end}
+use Rattle.polyline.proofs.LineLaws.{pieces_start, pieces_end}
 use Rattle.polyline.proofs.LineSteps.{piece_room, piece_put}
 use borrow.Author.Rules.{rules}
 use Rattle.polyline.proofs.put_pieces.Goals as goal

@@ -7,7 +7,7 @@ use Rattle.seqs.specs.Wrote.{put_end}
 use Rattle.polyline.specs.Line.{steps_from}
 use Rattle.geom.specs.Sewing.{flat}
 use Rattle.geom.specs.SewingLaws.{flat_none}
-use Rattle.polyline.specs.LineLaws.{steps_size, steps_none}
+use Rattle.polyline.proofs.LineLaws.{steps_size, steps_none}
 use Rattle.polyline.proofs.LineSteps.{step_room, step_put, last_put}
 use borrow.Author.Rules.{rules}
 use Rattle.polyline.proofs.put_steps.Goals as goal

@@ -1,8 +1,6 @@
 -- `running` meets its contract: each answer follows from the tests on the way to it. Assumes nothing.
 use mathlib.Core.Path.{refl, sym, ◌∙◌}
-use borrow.Author.Tests.{not-true, not-false}
 use Rattle.stroke.specs.RunningAnswers.{running_refusal, running_sewn, running_output}
-use borrow.Author.Rules.{rules}
 use Rattle.stroke.proofs.running.Goals as goal
 
 pub returns-then-not-good_line : goal.returns-then-not-good_line

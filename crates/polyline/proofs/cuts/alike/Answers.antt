@@ -4,7 +4,7 @@ use lib.Dec.{T}
 use lib.Ieee.{of_bits}
 use Rattle.numbers.specs.Order.{finite}
 use Rattle.numbers.specs.Laws.{holds}
-use Rattle.polyline.specs.LineLaws.{shortest_bits}
+use Rattle.polyline.proofs.LineLaws.{shortest_bits}
 use Rattle.polyline.specs.CutsLaws.{alike_steps}
 use Rattle.polyline.proofs.cuts.alike.Goals as goal
 

@@ -4,7 +4,7 @@ use lib.Dec.{T}
 use lib.Ieee.{of_bits, round}
 use Rattle.numbers.specs.Num.{literal}
 use Rattle.numbers.specs.Laws.{holds}
-use Rattle.polyline.specs.LineLaws.{shortest_bits}
+use Rattle.polyline.proofs.LineLaws.{shortest_bits}
 use Rattle.polyline.specs.CutsLaws.{not_shortest}
 use Rattle.polyline.proofs.cuts.skipped.Goals as goal
 

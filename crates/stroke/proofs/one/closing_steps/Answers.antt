@@ -1,7 +1,7 @@
 use mathlib.Core.Path.{sym, ap}
 use lib.ListN.{length}
-use Rattle.polyline.specs.LineLaws.{piece_length}
-use Rattle.stroke.specs.Closing.{closing_on, closing_short, closing_open}
+use Rattle.polyline.proofs.LineLaws.{piece_length}
+use Rattle.stroke.proofs.Closing.{closing_on, closing_short, closing_open}
 use borrow.Author.Rules.{rules}
 use Rattle.stroke.proofs.one.closing_steps.Goals as goal
 

@@ -3,8 +3,8 @@ use lib.ListN.{length, length-append}
 use Rattle.seqs.specs.Capped.{capped_on}
 use Rattle.geom.specs.Outline.{points}
 use Rattle.polyline.specs.Line.{resample_keep_corners}
-use Rattle.stroke.specs.Closing.{closing, one_pass_lem}
-use borrow.Author.Rules.{rules}
+use Rattle.stroke.specs.Closing.{closing}
+use Rattle.stroke.proofs.Closing.{one_pass_lem}
 use Rattle.stroke.proofs.one.count_one.Goals as goal
 
 pub returns : goal.returns

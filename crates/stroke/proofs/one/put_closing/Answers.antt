@@ -4,8 +4,9 @@ use lib.ListN.{length}
 use Rattle.seqs.specs.Put.{put_none}
 use Rattle.polyline.specs.Line.{piece}
 use Rattle.geom.specs.SewingLaws.{flat_length, flat_none}
-use Rattle.polyline.specs.LineLaws.{piece_length}
-use Rattle.stroke.specs.Closing.{closing, closing_on, closing_short, closing_open}
+use Rattle.polyline.proofs.LineLaws.{piece_length}
+use Rattle.stroke.specs.Closing.{closing}
+use Rattle.stroke.proofs.Closing.{closing_on, closing_short, closing_open}
 use borrow.Author.Rules.{rules}
 use Rattle.stroke.proofs.one.put_closing.Goals as goal
 

@@ -6,8 +6,8 @@ use Rattle.seqs.specs.Put.{put_then, put_length}
 use Rattle.geom.specs.Outline.{points}
 use Rattle.geom.specs.Sewing.{flat}
 use Rattle.polyline.specs.Line.{resample_keep_corners}
-use Rattle.stroke.specs.Closing.{closing, one_flat, one_size}
-use borrow.Author.Rules.{rules}
+use Rattle.stroke.specs.Closing.{closing}
+use Rattle.stroke.proofs.Closing.{one_flat, one_size}
 use Rattle.stroke.proofs.one.put_one.Goals as goal
 
 pub put_line-k-requires : goal.put_line-k-requires

@@ -1,15 +1,12 @@
 -- `put_pass` meets its contract: the points of the pass from r on are to be written from `at` on. Assumes nothing.
-use Prim.Native.Nat.{◌-◌, ◌≤◌}
 use native.Mathlib.Omega.{arith}
-use mathlib.Core.List.{◌++◌}
-use lib.ListN.{take, drop}
-use Rattle.seqs.specs.Front.{Front, front_from, front_at}
+use Rattle.seqs.specs.Front.{front_from, front_at}
 use Rattle.seqs.specs.Wrote.{put_end}
 use Rattle.seqs.specs.Reverse.{place_below}
 use Rattle.geom.specs.Sewing.{flat}
 use Rattle.geom.specs.SewingLaws.{flat_none, flat_length}
 use Rattle.stroke.specs.Running.{pass, standing}
-use Rattle.stroke.specs.RunningLaws.{turned, pass_length, pass_none, standing_length}
+use Rattle.stroke.specs.RunningLaws.{pass_length, pass_none, standing_length}
 use Rattle.stroke.proofs.PassSteps.{pass_room, pass_step}
 use borrow.Author.Rules.{rules}
 use Rattle.stroke.proofs.passes.put_pass.Goals as goal

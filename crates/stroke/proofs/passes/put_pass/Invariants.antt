@@ -1,17 +1,11 @@
 -- `put_pass` meets its contract: the points of the pass from r on are to be written from `at` on. Assumes nothing.
 use Prim.Native.Nat.{◌-◌, ◌≤◌}
-use native.Mathlib.Omega.{arith}
 use mathlib.Core.List.{◌++◌}
 use lib.ListN.{take, drop}
-use Rattle.seqs.specs.Front.{Front, front_from, front_at}
-use Rattle.seqs.specs.Wrote.{put_end}
-use Rattle.seqs.specs.Reverse.{place_below}
+use Rattle.seqs.specs.Front.{Front}
 use Rattle.geom.specs.Sewing.{flat}
-use Rattle.geom.specs.SewingLaws.{flat_none, flat_length}
 use Rattle.stroke.specs.Running.{pass, standing}
-use Rattle.stroke.specs.RunningLaws.{turned, pass_length, pass_none, standing_length}
-use Rattle.stroke.proofs.PassSteps.{pass_room, pass_step}
-use borrow.Author.Rules.{rules}
+use Rattle.stroke.specs.RunningLaws.{turned}
 use Rattle.stroke.proofs.passes.put_pass.Given as goal
 
 abbrev pub invariant-loop-r : goal.invariant-loop-r

@@ -1,9 +1,7 @@
 -- `put_passes` meets its contract: the passes from t on are to be written from `at` on. Assumes nothing.
-use Prim.Native.Nat.{◌-◌, ◌*◌, ◌≤◌}
+use Prim.Native.Nat.{◌-◌, ◌*◌}
 use native.Mathlib.Omega.{arith}
-use mathlib.Core.List.{◌++◌}
-use lib.ListN.{take}
-use Rattle.seqs.specs.Front.{Front, front_from, front_at}
+use Rattle.seqs.specs.Front.{front_from, front_at}
 use Rattle.seqs.specs.Wrote.{put_end}
 use Rattle.geom.specs.Sewing.{flat}
 use Rattle.geom.specs.SewingLaws.{flat_none}

@@ -1,16 +1,10 @@
 -- `put_passes` meets its contract: the passes from t on are to be written from `at` on. Assumes nothing.
 use Prim.Native.Nat.{◌-◌, ◌*◌, ◌≤◌}
-use native.Mathlib.Omega.{arith}
 use mathlib.Core.List.{◌++◌}
 use lib.ListN.{take}
-use Rattle.seqs.specs.Front.{Front, front_from, front_at}
-use Rattle.seqs.specs.Wrote.{put_end}
+use Rattle.seqs.specs.Front.{Front}
 use Rattle.geom.specs.Sewing.{flat}
-use Rattle.geom.specs.SewingLaws.{flat_none}
 use Rattle.stroke.specs.Running.{passes_from, standing}
-use Rattle.stroke.specs.RunningLaws.{passes_none}
-use Rattle.stroke.proofs.PassSteps.{run_room, run_step}
-use borrow.Author.Rules.{rules}
 use Rattle.stroke.proofs.passes.put_passes.Given as goal
 
 abbrev pub invariant-loop-pass : goal.invariant-loop-pass

@@ -6,7 +6,6 @@ use Rattle.geom.specs.Outline.{points}
 use Rattle.geom.specs.SewingLaws.{not_fitted, counted, fits, is_fitted}
 use Rattle.stroke.specs.Running.{one_pass, running}
 use Rattle.stroke.specs.RunningLaws.{one_past, all_counted, passes_room, running_put}
-use borrow.Author.Rules.{rules}
 use Rattle.stroke.proofs.whole.running.Goals as goal
 
 pub returns-then-n-room : goal.returns-then-n-room

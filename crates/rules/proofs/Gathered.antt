@@ -12,7 +12,7 @@ use Rattle.seqs.specs.Lists.{All, Sorted}
 use Rattle.seqs.specs.Tests.{is_true, refute, clash}
 use Rattle.seqs.specs.All.{all_perm}
 use Rattle.rules.specs.Fill.{same_x, merged_from, merged}
-use Rattle.rules.specs.Merged.{either}
+use Rattle.rules.proofs.Merged.{either}
 
 -- ---- numbers by `before`
 

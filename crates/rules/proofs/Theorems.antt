@@ -23,16 +23,16 @@ use Rattle.rules.specs.declared.Piece.{Piece}
 use Rattle.rules.specs.declared.Entry.{Entry}
 use Rattle.rules.specs.Fill.{edges, ymin, ymax, k_lo, k_hi, row_numbers, row_at, cross_x, by_x, crossed, pieces_of, link_ends, entries, met, row_list, section, offset, min_end, m0, m1, row_points, parts, tatami}
 use Rattle.rules.specs.Sweep.{InOrder, swept, swept_by, by_start}
-use Rattle.rules.specs.SweepLaws.{swept_alone, swept_by_alone}
+use Rattle.rules.proofs.SweepLaws.{swept_alone, swept_by_alone}
 use Rattle.rules.specs.Alls.{map_reverse}
 use Rattle.rules.specs.Accepted.{Accepted, Checked, checked, laid_out}
-use Rattle.rules.specs.Counts.{edges_few, pieces_half}
-use Rattle.rules.specs.FillSections.{rows_down}
+use Rattle.rules.proofs.Counts.{edges_few, pieces_half}
+use Rattle.rules.proofs.FillSections.{rows_down}
 use Rattle.rules.specs.Edges.{Good, edges_good}
-use Rattle.rules.specs.Pieces.{Small, crosses_within, pieces_small}
+use Rattle.rules.proofs.Pieces.{Small, crosses_within, pieces_small}
 use Rattle.rules.specs.Rise.{Rise}
-use Rattle.rules.specs.RowsRise.{row_rises}
-use Rattle.rules.specs.Stitches.{Inner, m0_whole, m1_whole, parts_whole, targets_inner, section_small, sewn_finite, link_finite}
+use Rattle.rules.proofs.RowsRise.{row_rises}
+use Rattle.rules.proofs.Stitches.{Inner, m0_whole, m1_whole, parts_whole, targets_inner, section_small, sewn_finite, link_finite}
 use Rattle.rules.specs.Rows.{Fair, row_within, row_ends_whole, rows_fair, rows_fall, rows_strict, starts_in_order}
 
 module _ (corners : List Float) (ends : List ℕ) (g : Settings) (stagger : ℕ) (accepted : Accepted corners ends g stagger) where

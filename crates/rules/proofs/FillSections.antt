@@ -25,7 +25,7 @@ use Rattle.rules.specs.declared.Edge.{Edge}
 use Rattle.rules.specs.declared.Piece.{Piece}
 use Rattle.rules.specs.declared.Entry.{Entry}
 use Rattle.rules.specs.Fill.{edges, how_many, through, k_lo, k_hi, row_numbers, row_at, crossed, crossings, spans, piece_of, wide, pieces_at, pieces_of, row_entries, begun, entries, met, row_list, section, sections, sew, sewn, tatami}
-use Rattle.rules.specs.Sections.{chain_snoc, Next, Begins, section_chain, entries_pieces, bound, all_begin}
+use Rattle.rules.proofs.Sections.{chain_snoc, Next, Begins, section_chain, entries_pieces, bound, all_begin}
 
 -- ---- row numbers
 

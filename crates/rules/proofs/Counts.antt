@@ -20,9 +20,9 @@ use Rattle.outlines.specs.Inside.{inside}
 use Rattle.limits.specs.Limits.{good_outline}
 use Rattle.rules.specs.declared.Settings.{Settings}
 use Rattle.rules.specs.declared.Edge.{Edge}
-use Rattle.rules.specs.Merged.{merged_length}
-use Rattle.rules.specs.FillSections.{pieces_of_rows}
-use Rattle.rules.specs.RowsRise.{outside}
+use Rattle.rules.proofs.Merged.{merged_length}
+use Rattle.rules.proofs.FillSections.{pieces_of_rows}
+use Rattle.rules.proofs.RowsRise.{outside}
 use Rattle.rules.specs.Fill.{sides_to, sides, edge_of, kept_side, turned, edges, row_numbers, row_at, starts, lives, by_x, crossed, crossing, merged, crossings, spans, piece_of, wide, pieces_at, pieces_of, met, row_list}
 
 -- ---- edges

@@ -1,5 +1,5 @@
 -- What holds of crossings holds of them merged: where they are, their order, how many. Assumes nothing.
-use Rattle.std.specs.Prelude.{Bool, true, false, cond, ℕ, suc, ◌≤◌, ℤ, ◌+ℤ◌, length, Float}
+use Rattle.std.specs.Prelude.{Bool, true, false, cond, suc, ◌≤◌, ℤ, ◌+ℤ◌, length, Float}
 use mathlib.Core.List.{List, [], ◌∷◌}
 use Rattle.std.proofs.Common.{arith}
 use Rattle.seqs.specs.Lists.{All, Sorted}

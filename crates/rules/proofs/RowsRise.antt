@@ -18,13 +18,13 @@ use Rattle.outlines.specs.declared.rule.FillRule.TheVariants.{NonZero, EvenOdd}
 use Rattle.outlines.specs.Inside.{inside}
 use Rattle.rules.specs.declared.Settings.{Settings}
 use Rattle.rules.specs.Fill.{edges, row_at, cross_x, crossed, crossing, merged, crossings, spans, shrink, piece_of, wide, pieces_at, pieces_of}
-use Rattle.rules.specs.Merged.{merged_sorted}
+use Rattle.rules.proofs.Merged.{merged_sorted}
 use Rattle.rules.specs.Rise.{Onward, Rise}
 use Rattle.rules.specs.Accepted.{Checked}
 use Rattle.rules.specs.Alls.{sorted_both, sorted_mapped}
 use Rattle.rules.specs.Edges.{within_number}
 use Rattle.rules.specs.Rows.{Fair, crossings_in_order}
-use Rattle.rules.specs.Pieces.{shrink_within, spans_small}
+use Rattle.rules.proofs.Pieces.{shrink_within, spans_small}
 
 -- a span that neither starts nor ends before another
 abbrev Later : Float × Float → Float × Float → Type 0

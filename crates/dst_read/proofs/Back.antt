@@ -18,7 +18,7 @@ use Rattle.dst_read.specs.Record.{bad, is_end}
 use Rattle.dst_read.specs.Reading.{stop, verdict, Marked, points_from}
 use Rattle.dst_read.specs.Answers.{points_read, read_refusal}
 use Rattle.dst_read.specs.Told.{marked_third, marked_record, mark_for, marked, sewn}
-use Rattle.dst_read.specs.RecordLaws.{Says, good_goes_on, record_says, kind_record}
+use Rattle.dst_read.proofs.RecordLaws.{Says, good_goes_on, record_says, kind_record}
 
 -- ---- a record that is taken
 

@@ -27,8 +27,8 @@ use Rattle.rules.specs.Accepted.{Checked, Range}
 use Rattle.rules.specs.Alls.{all_both, all_mapped, all_unmapped, all_parts, all_reverse}
 use Rattle.rules.specs.Edges.{Good, within_number, edges_good}
 use Rattle.rules.specs.Rows.{Fair, row_within, rows_fair}
-use Rattle.rules.specs.Merged.{merged_all}
-use Rattle.rules.specs.FillSections.{pieces_of_rows}
+use Rattle.rules.proofs.Merged.{merged_all}
+use Rattle.rules.proofs.FillSections.{pieces_of_rows}
 
 -- where an edge crosses a row, and nowhere else: between its ends, but for rounding
 crossing_within : (e : Edge) → Good e → (y : Float) → Within 33 y → T (le e.y0 y) → T (lt y e.y1) → Within 22 (e.x0 ⊕ (y ⊖ e.y0) ⊗ e.dxdy)

@@ -29,7 +29,7 @@ use Rattle.rules.specs.Fill.{begun, row_list, section, sections, link_ends, how_
 use Rattle.rules.specs.Accepted.{Checked}
 use Rattle.rules.specs.Alls.{all_mapped, all_parts, all_reverse}
 use Rattle.rules.specs.Edges.{turn}
-use Rattle.rules.specs.Pieces.{Small, pieces_small}
+use Rattle.rules.proofs.Pieces.{Small, pieces_small}
 
 -- ---- whole numbers as divisors
 

@@ -12,7 +12,7 @@ use Rattle.geom.specs.declared.point.P.{P}
 use Rattle.geom.specs.Point.{one, dist}
 use Rattle.geom.specs.Steps.{steps}
 use Rattle.polyline.specs.Line.{shortest, piece_steps, steps_from, step_ends, piece, pieces_from, pieces, resample_keep_corners}
-use Rattle.polyline.specs.LineLaws.{ends_last}
+use Rattle.polyline.proofs.LineLaws.{ends_last}
 
 -- the corners after p that end a piece that isn't skipped
 unfoldable pub kept_from : P → List P → List P

@@ -15,10 +15,10 @@ use Rattle.rules.specs.declared.Entry.{Entry}
 use Rattle.rules.specs.Fill.{begun, row_list, section, sections, row_points, between, sew_from, sew, sewn, tatami}
 use Rattle.rules.specs.Accepted.{Accepted, Checked, checked}
 use Rattle.rules.specs.Alls.{all_mapped}
-use Rattle.rules.specs.Stitches.{Inner, parts_whole}
+use Rattle.rules.proofs.Stitches.{Inner, parts_whole}
 use Rattle.apart.specs.Apart.{no_farther, neighbours, unturned, all_unturned}
 use Rattle.apart.specs.Distances.{Point}
-use Rattle.apart.specs.Ways.{way}
+use Rattle.apart.proofs.Ways.{way}
 use Rattle.apart.specs.Sizes.{asked, section_fine, targets}
 
 module _ (outline : List (List P)) (g : Settings) (stagger : ℕ) (ok : Checked outline g stagger) where
