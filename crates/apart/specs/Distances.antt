@@ -18,8 +18,10 @@ use Rattle.numbers.specs.Fraction.{over, under, plus, less}
 use Rattle.numbers.specs.Rounded.{add_rounded, sub_rounded}
 use Rattle.numbers.specs.Monotone.{at_least_zero, div_rounded}
 use Rattle.numbers.specs.Bounds.{within_finite, within_round}
-use Rattle.numbers.specs.Roots.{above_is, nothing_below}
-use Rattle.numbers.specs.Laws.{ceil_is, atleast_above, within_sub, within_mul, within_add, within_more, within_root, within_div, square_up, sum_up, div_up, root_fits, root_up, sub-fits, add-fits, mul-fits, div-fits}
+use Rattle.numbers.specs.Roots.{nothing_below}
+use Rattle.numbers.proofs.Roots.{above_is}
+use Rattle.numbers.specs.Laws.{ceil_is, atleast_above, within_sub, within_mul, within_add, within_more, within_div, square_up, sum_up, div_up, sub-fits, add-fits, mul-fits, div-fits}
+use Rattle.numbers.proofs.Laws.{within_root, root_fits, root_up}
 use Rattle.geom.specs.declared.point.P.{P}
 use Rattle.geom.specs.Point.{len, dist}
 use Rattle.apart.specs.Apart.{gap}

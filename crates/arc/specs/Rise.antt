@@ -5,7 +5,8 @@ use Rattle.std.specs.Float.{nan, binary64}
 use Rattle.std.specs.Float.Ieee.{le, fits}
 use Rattle.numbers.specs.Num.{◌⊕◌, ◌⊖◌, ◌⊗◌, zero64}
 use Rattle.numbers.specs.Value.{Within}
-use Rattle.numbers.specs.Laws.{le_trans, add-fits, sum_up, square_up, root_up, holds, within_sub, within_finite, over_up}
+use Rattle.numbers.specs.Laws.{le_trans, add-fits, sum_up, square_up, holds, within_sub, within_finite, over_up}
+use Rattle.numbers.proofs.Laws.{root_up}
 use Rattle.seqs.specs.Lists.{All}
 use Rattle.seqs.specs.Tests.{is_true, and_both}
 use Rattle.geom.specs.declared.point.P.{P}

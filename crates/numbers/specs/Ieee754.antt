@@ -14,7 +14,7 @@ use Rattle.numbers.specs.Value.{units_of, IsRoot, IsFloor, IsCeil}
 use Rattle.numbers.specs.Units.{own_units, same_units}
 use Rattle.numbers.specs.Fraction.{under, lt→cross}
 use Rattle.numbers.specs.OrderLaws.{before_irrefl, before_trans, before_total, lt_before, before_lt}
-use Rattle.numbers.specs.Roots.{root_has, root_unique}
+use Rattle.numbers.specs.Roots.{root_unique}
 use Rattle.numbers.specs.Floors.{floor_has, ceil_has}
 use Rattle.numbers.specs.FloorLaws.{floor_unique, ceil_unique}
 
@@ -24,10 +24,6 @@ units_are = own_units
 
 pub units_fix : (x y : Float) → T (fits binary64 x) → T (fits binary64 y) → T (finite x) → T (finite y) → negative x ≡ negative y → units_of x ≡ units_of y → x ≡ y
 units_fix = same_units
-
--- ---- squareRoot, rounded to nearest: above zero it is the correctly rounded root, and the only one
-pub root_is : (x : Float) → T (fits binary64 x) → T (finite x) → T (lt zero64 x) → IsRoot x (root x)
-root_is = root_has
 
 pub root_only : (x r r' : Float) → IsRoot x r → IsRoot x r' → r ≡ r'
 root_only = root_unique

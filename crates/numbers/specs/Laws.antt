@@ -3,9 +3,8 @@
 -- `T (fits binary64 x)` holds for every f64 of the code, and for every result of an operation. Some names are those of ℕ's laws too: `use .. Laws as laws`, and `laws.le_trans`.
 use Rattle.std.specs.Prelude.{◌≡◌, Bool, true, false, not, T}
 use Rattle.std.proofs.Common.{sym, subst}
--- ---- what fits: the results of ⊕, ⊖, ⊗, ⊘, a literal and a whole number's float; neg, root and magnitude of what fits; floor and ceiling
+-- ---- what fits: the results of ⊕, ⊖, ⊗, ⊘, a literal and a whole number's float; neg and magnitude of what fits; floor and ceiling
 pub use Rattle.std.specs.Float.Ieee.Fits.{add-fits, sub-fits, mul-fits, div-fits, round-fits, of_int-fits, neg-fits}
-pub use Rattle.numbers.specs.Roots.{root_fits}
 pub use Rattle.numbers.specs.Choice.{magnitude_fits}
 pub use Rattle.numbers.specs.FloorLaws.{floor_fits, ceil_fits}
 -- ---- the order of values
@@ -41,18 +40,10 @@ pub use Rattle.numbers.specs.Choice.{smaller_le_left, smaller_le_right, le_large
 pub use Rattle.numbers.specs.Choice.{magnitude_finite, magnitude_units, magnitude_is}
 -- 0 ≤ |x|, x ≤ |x| and -|x| ≤ x, if x is no NaN
 pub use Rattle.numbers.specs.Choice.{magnitude_up, le_magnitude, neg_le_magnitude}
--- ---- the root
--- 0 ≤ x ≤ y makes root x ≤ root y
-pub use Rattle.numbers.specs.Roots.{root_mono}
--- never negative, finite of what is finite, above zero of what is above zero
-pub use Rattle.numbers.specs.Roots.{root_up, root_finite, root_above}
--- a zero is its own root; below zero there is none; above it is the correctly rounded one (`IsRoot`)
+-- ---- the root: more in proofs/Laws
+-- a zero is its own root; below zero there is none
 pub use Rattle.numbers.specs.Roots.{root_of_zero}
-pub use Rattle.numbers.specs.Ieee754.{root_below, root_is}
--- 0 < x, 0 < y: x < y ⊗ y makes root x ≤ y, and y ⊗ y < x makes y ≤ root x
-pub use Rattle.numbers.specs.RootBounds.{root_under, root_over}
--- 2 ^ -500 ≤ y: the root of y ⊗ y is y, if that is finite and not rounded to zero
-pub use Rattle.numbers.specs.SquareRoots.{root_square}
+pub use Rattle.numbers.specs.Ieee754.{root_below}
 -- ---- floor and ceiling
 -- x ≤ y makes floor x ≤ floor y and ceil x ≤ ceil y
 pub use Rattle.numbers.specs.FloorLaws.{floor_mono, ceil_mono}
@@ -88,9 +79,8 @@ pub use Rattle.numbers.specs.Bounds.{within_le, within_between, atleast_le}
 pub use Rattle.numbers.specs.Bounds.{within_real, within_literal, within_fin, atleast_literal, atleast_fin}
 -- -x and |x| keep n; a sum and a difference have n + 1; a product a + b; a quotient by what is AtLeast j, n + j
 pub use Rattle.numbers.specs.Bounds.{within_neg, within_magnitude, within_add, within_sub, within_mul, within_div}
--- floor and ceiling keep n; the root has half of it, from above and from below
+-- floor and ceiling keep n
 pub use Rattle.numbers.specs.Bounds.{within_floor, within_ceil}
-pub use Rattle.numbers.specs.RootBounds.{within_root, atleast_root}
 -- x ⊗ x < 4 ^ n, or x ⊗ x ⊕ y ⊗ y: x, and y, at most 2 ^ n
 pub use Rattle.numbers.specs.Squares.{within_square, within_squares}
 -- ---- casts

@@ -1,5 +1,5 @@
 -- No finite f64 is as near to the exact root as the one that `root` gives: the proof. `IsRoot` of Value says what it comes to.
-use Rattle.std.specs.Prelude.{◌≡◌, refl, Bool, true, false, not, cond, ◌⊎◌, ℕ, zero, suc, ◌+◌, ◌-◌, ◌*◌, ◌/◌, ◌%◌, ◌^◌, ◌≤◌, ◌<◌, T, leb}
+use Rattle.std.specs.Prelude.{◌≡◌, refl, Bool, true, false, not, cond, ◌⊎◌, ℕ, zero, suc, ◌+◌, ◌-◌, ◌*◌, ◌/◌, ◌^◌, ◌≤◌, ◌<◌, T, leb}
 use Rattle.std.proofs.Common.{sym, ap, subst, ◌∙◌, inl, inr, zero-le, mul_assoc, add-mul, zero-mul, lt_irrefl, lt_of_lt_of_le, lt_of_le_of_lt, le_trans, le_of_eq, le_of_lt, lt_of_not-le, not-le_of_lt, mul-le-mul, mul-le-mul_left, mul-le-mul_right, mul-lt-mul_of_pos_right, lt_of_mul-lt-mul_right, mul-div_cancel, mul-pos, eq-or-lt_of_le, arith, pow_mono, pow_pos, pow-add, leb→le}
 use Rattle.std.proofs.Math.Nat.{pow-succ'}
 use Rattle.std.proofs.Math.Decide.{dec_le}
@@ -10,7 +10,6 @@ use Rattle.std.specs.Float.Ieee.Fits.{down_pos}
 use Rattle.std.specs.Float.Ieee.Digits.{odd_val, size-lt, size-le, size_reaches}
 use Rattle.numbers.specs.Root.{near_root, root_units, isqrt}
 use Rattle.numbers.specs.RootLaws.{Root, isqrt_is, square_next, less_root, square_two}
-use Rattle.numbers.specs.Decode.{root_units_at, apart}
 use Rattle.numbers.specs.Value.{units_of, Nearer}
 use Rattle.numbers.specs.Units.{Grid}
 
@@ -35,7 +34,7 @@ near_is m q p r = go (leb (m - q * q) q) (leb→le (m - q * q) q) (nleb→lt (m 
         let f : 2 * (q + 1) - 1 ≡ 2 * q + 1 = omega arith in
         record { low = rw f (omega (arith, square_next (2 * q), square_two q)); high = omega (arith, r.above, square_next (2 * (q + 1)), square_two (q + 1)) }
 
-near_root_near : (d m : ℕ) → 0 < m → m < 4 ^ d → Near m (near_root d m)
+pub near_root_near : (d m : ℕ) → 0 < m → m < 4 ^ d → Near m (near_root d m)
 unfolding near_root
 near_root_near d m p h = near_is m (isqrt d m) (some (isqrt d m) (isqrt_is d m h)) (isqrt_is d m h)
   where
@@ -82,7 +81,7 @@ module _ (m q p : ℕ) (near : Near m q) (big : 2 ^ 52 ≤ q) (P : 0 < p) where
       let e : q * p + (q - 1) * p ≡ (2 * q - 1) * p = sym (add-mul q (q - 1) p) ∙ ap (λ (x : ℕ). x * p) (omega arith) in
       omega arith
 
-four_pow : (k : ℕ) → 4 ^ k ≡ 2 ^ k * 2 ^ k
+pub four_pow : (k : ℕ) → 4 ^ k ≡ 2 ^ k * 2 ^ k
 four_pow zero = refl
 four_pow (suc k) = pow-succ' 4 k ∙ ap (λ (x : ℕ). 4 * x) (four_pow k) ∙ sym (ap (λ (x : ℕ). x * x) (pow-succ' 2 k) ∙ square_two (2 ^ k))
 
@@ -122,15 +121,15 @@ nearest_of m q k y near big large g = record { under = under; over = over }
         go (no f) (inr l) = less (le_trans (le_of_lt (lt_of_not-le f)) (mul-le-mul_right (2 ^ k) (omega arith)))
 
 -- ---- a positive value has 53 digits, once its zeros are moved
-record Placed (n : ℕ) : Type 0 where
-  d : ℕ
-  a : ℕ
-  low : 2 ^ 52 ≤ d
-  high : d < 2 ^ 53
-  far : 52 ≤ a
-  is : n ≡ d * 2 ^ a
+pub record Placed (n : ℕ) : Type 0 where
+  pub d : ℕ
+  pub a : ℕ
+  pub low : 2 ^ 52 ≤ d
+  pub high : d < 2 ^ 53
+  pub far : 52 ≤ a
+  pub is : n ≡ d * 2 ^ a
 
-placed : (y : ℕ) → 0 < y → Grid y → Placed (y * 2 ^ 1074)
+pub placed : (y : ℕ) → 0 < y → Grid y → Placed (y * 2 ^ 1074)
 placed y p g = go g.digits g.short g.is
   where
     go : (j : ℕ) → j < 2 ^ 53 → y ≡ j * 2 ^ g.places → Placed (y * 2 ^ 1074)
@@ -159,7 +158,7 @@ units_odd d (suc q) k =
     let e = minus (k + count_trailing_zeros d (suc q)) 1074 in
     ap (λ (x : ℕ). x / down e) (odd_val d false (suc q) k 1074) ∙ mul-div_cancel (suc q * 2 ^ k) (down_pos e)
 
-sized : (d p : ℕ) → p < 2 → 2 ^ 52 ≤ d → d < 2 ^ 53 → (2 ^ 52 ≤ d * 2 ^ p) × (d * 2 ^ p < 2 ^ 54)
+pub sized : (d p : ℕ) → p < 2 → 2 ^ 52 ≤ d → d < 2 ^ 53 → (2 ^ 52 ≤ d * 2 ^ p) × (d * 2 ^ p < 2 ^ 54)
 sized d zero h lo hi = (omega arith, omega arith)
 sized d (suc zero) h lo hi = (omega arith, omega arith)
 sized d (suc (suc p)) h lo hi = absurd (none p h)
@@ -177,27 +176,6 @@ pub record Rooted (n : ℕ) : Type 0 where
   pub near : Near m q
   pub low : 2 ^ 104 ≤ m
   pub high : m < 2 ^ 106
-
-pub rooted : (y : ℕ) → 0 < y → Grid y → Rooted (y * 2 ^ 1074)
-rooted y P g = go (placed y P g)
-  where
-    go : Placed (y * 2 ^ 1074) → Rooted (y * 2 ^ 1074)
-    go z =
-        let k = (z.a - 52) / 2 in
-        let p = (z.a - 52) % 2 in
-        let m = z.d * 2 ^ p * 2 ^ 52 in
-        let o : z.a ≡ 52 + (2 * k + p) = omega (arith, z.far) in
-        let w = sized z.d p (omega arith) z.low z.high in
-        record {
-          m = m;
-          q = near_root 53 m;
-          k = k;
-          is = ap root_units z.is ∙ root_units_at z.d z.a k p z.low z.high o (omega arith);
-          split = z.is ∙ ap (λ (x : ℕ). z.d * 2 ^ x) o ∙ apart z.d k p ∙ ap (λ (x : ℕ). m * x) (four_pow k);
-          near = near_root_near 53 m (omega (arith, w.0)) (omega (arith, w.1));
-          low = omega (arith, w.0);
-          high = omega (arith, w.1);
-        }
 
 -- q has 53 digits, or is 2 ^ 53
 pub at_least : (m q : ℕ) → Near m q → 2 ^ 104 ≤ m → 2 ^ 52 ≤ q

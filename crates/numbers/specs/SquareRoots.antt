@@ -1,30 +1,22 @@
 -- A number's square, rounded, has that number for its root: the rounding moves the square by less than half a place of the number. Assumes nothing.
-use Rattle.std.specs.Prelude.{◌≡◌, refl, true, not, ◌⊎◌, T, ℤ, Float}
-use Rattle.std.proofs.Common.{sym, subst, ◌∙◌, inl, inr, mul_assoc, mul-pos, mul-le-mul, mul-le-mul_right, le_of_eq, le_of_lt, lt_of_lt_of_le, lt_of_le_of_lt, not-le_of_lt, eq-or-lt_of_le, le-div_iff_mul-le, div-add-mod', mod-lt, leb→le, eqb→eq, pow_pos, pow_mono}
+use Rattle.std.specs.Prelude.{◌≡◌, not, ◌⊎◌, T, Float}
+use Rattle.std.proofs.Common.{sym, subst, ◌∙◌, inl, inr, mul-pos, mul-le-mul, mul-le-mul_right, le_of_eq, le_of_lt, lt_of_lt_of_le, lt_of_le_of_lt, not-le_of_lt, eq-or-lt_of_le, div-add-mod', mod-lt, leb→le, eqb→eq, pow_pos, pow_mono}
 use Rattle.std.proofs.Math.Path.{ap}
-use Rattle.std.proofs.Math.Bool.{false}
 use Prim.Native.Nat.{ℕ, ◌+◌, ◌-◌, ◌*◌, ◌/◌, ◌%◌, ◌^◌, ◌≤◌, ◌<◌, compare, Ordering}
-use Rattle.std.proofs.Math.Nat.{le_of_mul-le-mul_right, lt_of_mul-lt-mul_right, eq_of_mul-eq-mul_right, le_trans, lt_of_not-le, le_antisymm}
+use Rattle.std.proofs.Math.Nat.{le_of_mul-le-mul_right, lt_of_mul-lt-mul_right, le_trans, lt_of_not-le, le_antisymm}
 use Rattle.std.proofs.Math.Decide.{dec_le}
 use native.Mathlib.Omega.{arith}
-use Rattle.std.proofs.Math.Dec.{is_le, compare_is_eq, nleb→lt, lit≤}
+use Rattle.std.proofs.Math.Dec.{is_le, compare_is_eq, nleb→lt}
 use Rattle.std.proofs.Math.Pow.{pow-add}
 use Rattle.std.specs.Float.{nan, inf, fin}
-use Rattle.std.specs.Float.Ieee.{binary64, up, down, size, nearest, round, fits, lt}
-use Rattle.std.specs.Float.Ieee.Bits.{is_false}
+use Rattle.std.specs.Float.Ieee.{size, nearest}
 use Rattle.std.specs.Float.Ieee.Digits.{size-lt, size_reaches}
-use Rattle.std.specs.Float.Ieee.Fits.{down_pos, mul-fits}
-use Rattle.std.specs.Float.Ieee.Nearest.{closest, closest_same}
-use Rattle.std.specs.Float.Ieee.Exact.{HasValue}
-use Rattle.std.specs.Float.Ieee.Positive.{positive_of_value, mul_at}
+use Rattle.std.specs.Float.Ieee.Nearest.{closest}
 use Rattle.std.specs.Float.Ieee.Scale as scale
-use Rattle.numbers.specs.Num.{◌⊗◌, zero64}
-use Rattle.numbers.specs.Root.{root}
-use Rattle.numbers.specs.Order.{negative, finite}
-use Rattle.numbers.specs.Value.{units_of, Nearer, AtLeast}
-use Rattle.numbers.specs.Units.{Grid, grid, pow_le_back, units_exact, units_of_lem, same_units}
+use Rattle.numbers.specs.Order.{finite}
+use Rattle.numbers.specs.Value.{Nearer}
+use Rattle.numbers.specs.Units.{Grid, pow_le_back}
 use Rattle.numbers.specs.RootNearest.{multiple, scaled}
-use Rattle.numbers.specs.Roots.{root_has}
 
 -- ---- the nearest multiple of p
 
@@ -67,14 +59,14 @@ digit d h = omega arith
 squares : (a b : ℕ) → a ≤ b → a * a ≤ b * b
 squares a b h = mul-le-mul h h
 
-record Placed (y : ℕ) : Type 0 where
-  d : ℕ
-  k : ℕ
-  low : 2 ^ 52 ≤ d
-  high : d < 2 ^ 53
-  is : y ≡ d * 2 ^ k
+pub record Placed (y : ℕ) : Type 0 where
+  pub d : ℕ
+  pub k : ℕ
+  pub low : 2 ^ 52 ≤ d
+  pub high : d < 2 ^ 53
+  pub is : y ≡ d * 2 ^ k
 
-at : (y k c : ℕ) → 2 ^ 52 * 2 ^ k ≤ y → y < 2 ^ 53 * 2 ^ k → y ≡ c * 2 ^ k → Placed y
+pub at : (y k c : ℕ) → 2 ^ 52 * 2 ^ k ≤ y → y < 2 ^ 53 * 2 ^ k → y ≡ c * 2 ^ k → Placed y
 at y k c low high is = record {
   d = c;
   k = k;
@@ -83,7 +75,7 @@ at y k c low high is = record {
   is = is;
 }
 
-placed : (y : ℕ) → Grid y → 2 ^ 53 ≤ y → Placed y
+pub placed : (y : ℕ) → Grid y → 2 ^ 53 ≤ y → Placed y
 placed y g h =
     let z = size y in
     let big : 53 < z = lt_of_not-le (λ (f : z ≤ 53). not-le_of_lt (lt_of_lt_of_le (size-lt y) (pow_mono f)) h) in
@@ -136,7 +128,7 @@ module _ (y n b : ℕ) (v : Placed y) (is : n ≡ closest (y * y) (2 ^ b) * 2 ^ 
           let b : 2 * c ≤ 2 * m + 1 = le_of_mul-le-mul_right {k = p} (omega arith) P in
           ap (λ (x : ℕ). x * p) (omega (arith, a, b))
 
-  nothing_nearer : (r : ℕ) → Grid r → Nearer n r y → r ≡ y
+  pub nothing_nearer : (r : ℕ) → Grid r → Nearer n r y → r ≡ y
   unfolding q
   nothing_nearer r g w = le_antisymm (upper (dec_le r y)) (lower (dec_le y r))
     where
@@ -179,87 +171,11 @@ module _ (y n b : ℕ) (v : Placed y) (is : n ≡ closest (y * y) (2 ^ b) * 2 ^ 
           go (inr m) (no s) = short (le_trans (le_of_lt (lt_of_not-le s)) (mul-le-mul_right (2 ^ v.k) (omega arith)))
 
 -- ---- of floats
-long : (a d u l b : ℕ) → 0 < d → a * l ≡ u * d → d ≤ a * b → l ≤ u * b
+pub long : (a d u l b : ℕ) → 0 < d → a * l ≡ u * d → d ≤ a * b → l ≤ u * b
 long a d u l b D e h = le_of_mul-le-mul_right {k = d} (omega (arith, mul-le-mul_right l h, ap (λ (k : ℕ). k * b) e)) D
 
-still_finite : (v : Float) → T (finite v) → T (scale.finite v)
+pub still_finite : (v : Float) → T (finite v) → T (scale.finite v)
 unfolding finite
 still_finite nan h = h
 still_finite (inf s) h = h
 still_finite (fin s m e) h = tt
-
-module _ (m : ℕ) (e : ℤ) (f : T (fits binary64 (fin false m e))) (some : AtLeast 500 (fin false m e)) (g : T (finite (fin false m e ⊗ fin false m e))) (h : T (lt zero64 (fin false m e ⊗ fin false m e))) where
-  abbrev y : Float
-  y = fin false m e
-
-  abbrev u : ℕ
-  u = units_of y
-
-  abbrev l : ℕ
-  l = 2 ^ 1074
-
-  big : 2 ^ 574 ≤ u
-  unfolding AtLeast
-  big = le_of_mul-le-mul_right {k = 2 ^ 500} (le_trans (le_of_eq (sym (pow-add 2 574 500))) (long (m * up e) (down e) u l (2 ^ 500) (down_pos e) (units_exact false m e f) some)) (pow_pos 500)
-
-  v : Placed u
-  v = let a : 2 ^ 53 ≤ 2 ^ 574 = lit≤ tt in placed u (grid y f) (le_trans a big)
-
-  C : 0 < l * l
-  C = mul-pos (pow_pos 1074) (pow_pos 1074)
-
-  value : HasValue y false u l
-  value = (refl, units_exact false m e f)
-
-  some_units : 0 < u
-  some_units = lt_of_lt_of_le (pow_pos 574) big
-
-  square_is : y ⊗ y ≡ round binary64 false (u * u) (l * l)
-  square_is = let p = positive_of_value y u l value some_units in mul_at binary64 y y u l u l p p (pow_pos 1074) (pow_pos 1074) value value
-
-  -- the digits dropped
-  t : ℕ
-  t = size (u * u * l / (l * l)) - 53
-
-  square_units : units_of (y ⊗ y) ≡ closest (u * u * l) (l * l * 2 ^ t) * 2 ^ t
-  unfolding t
-  square_units = eq_of_mul-eq-mul_right l (pow_pos 1074) _ _ (units_of_lem (y ⊗ y) false (scale.grid binary64 (u * u) (l * l)) l (pow_pos 1074) (mul-fits binary64 y y) (rw square_is (scale.round_val binary64 (u * u) (l * l) (scale.round_under binary64 (u * u) (l * l) (still_finite _ (rw square_is at g)))))).0
-
-  is : units_of (y ⊗ y) * l ≡ closest (u * u) (2 ^ (t + 1074)) * 2 ^ (t + 1074)
-  is =
-      join (units_of (y ⊗ y)) (closest (u * u * l) (l * l * 2 ^ t)) (2 ^ t) l (2 ^ (t + 1074)) square_units (pow-add 2 t 1074)
-      ∙ ap (λ (k : ℕ). k * 2 ^ (t + 1074)) (closest_same (u * u * l) (l * l * 2 ^ t) (u * u) (2 ^ (t + 1074)) (mul-pos C (pow_pos t)) (pow_pos (t + 1074)) (ap (λ (k : ℕ). u * u * l * k) (pow-add 2 t 1074) ∙ turn (u * u) l (2 ^ t)))
-    where
-      join : (x k t l w : ℕ) → x ≡ k * t → w ≡ t * l → x * l ≡ k * w
-      join x k t l w e f = ap (λ (z : ℕ). z * l) e ∙ mul_assoc k t l ∙ ap (λ (z : ℕ). k * z) (sym f)
-
-      turn : (s l t : ℕ) → s * l * (t * l) ≡ s * (l * l * t)
-      turn s l t = omega arith
-
-  last : 2 ^ 52 * 2 ^ (t + 1074) ≤ u * u
-  unfolding t
-  last =
-      let z = size (u * u * l / (l * l)) in
-      let a : 2 ^ 52 * l ≤ 2 ^ 574 * 2 ^ 574 = lit≤ tt in
-      let b : 2 ^ 52 * l ≤ u * u = le_trans a (mul-le-mul big big) in
-      let n : 53 ≤ z = scale.normal_of_fraction binary64 (u * u) (l * l) C (le_trans (le_of_eq (sym (mul_assoc (2 ^ 52) l l))) (mul-le-mul_right l b)) in
-      let d : z - 1 ≡ 52 + (z - 53) = omega arith in
-      let r : 2 ^ (z - 1) * (l * l) ≤ u * u * l = (le-div_iff_mul-le C).0 (size_reaches (u * u * l / (l * l)) (z - 1) (omega arith)) in
-      le_trans (le_of_eq (ap (λ (k : ℕ). 2 ^ 52 * k) (pow-add 2 (z - 53) 1074)))
-      (cancel (2 ^ 52) (2 ^ (z - 53)) l (u * u) (pow_pos 1074) (subst (λ (k : ℕ). k * (l * l) ≤ u * u * l) (ap (λ (k : ℕ). 2 ^ k) d ∙ pow-add 2 52 (z - 53)) r))
-    where
-      cancel : (a t l s : ℕ) → 0 < l → a * t * (l * l) ≤ s * l → a * (t * l) ≤ s
-      cancel a t l s L h = le_of_mul-le-mul_right {k = l} (omega (arith, h)) L
-
-  fine_square : root (y ⊗ y) ≡ y
-  unfolding finite negative
-  fine_square =
-      let i = root_has (y ⊗ y) (mul-fits binary64 y y) g h in
-      same_units (root (y ⊗ y)) y i.fit f i.fine tt (is_false (negative (root (y ⊗ y))) i.sign)
-      (nothing_nearer u (units_of (y ⊗ y) * l) (t + 1074) v is last (units_of (root (y ⊗ y))) (grid (root (y ⊗ y)) i.fit) (i.nearest y f tt))
-
-pub root_square : (y : Float) → T (fits binary64 y) → AtLeast 500 y → T (finite (y ⊗ y)) → T (lt zero64 (y ⊗ y)) → root (y ⊗ y) ≡ y
-root_square nan f a g h = unfold AtLeast in absurd a
-root_square (inf s) f a g h = unfold AtLeast in absurd a
-root_square (fin true m e) f a g h = unfold AtLeast in absurd a
-root_square (fin false m e) f a g h = fine_square m e f a g h

@@ -6,7 +6,8 @@ use Rattle.std.specs.Float.{nan, binary64}
 use Rattle.std.specs.Float.Ieee.{fits, le, lt, round}
 use Rattle.numbers.specs.Num.{literal}
 use Rattle.numbers.specs.Root.{isqrt, near_root, root_units, root}
-use Rattle.numbers.specs.Laws.{root_mono, holds}
+use Rattle.numbers.specs.Laws.{holds}
+use Rattle.numbers.proofs.Laws.{root_mono}
 use Rattle.numbers.specs.FloatOrder.{le_lt_clash}
 use Rattle.seqs.specs.Tests.{refute}
 use Rattle.seqs.specs.Slices.{put}

@@ -14,6 +14,7 @@ use Rattle.numbers.specs.Whole.{ceil}
 use Rattle.numbers.specs.Value.{units_of, Within}
 use Rattle.numbers.specs.Floors.{value_units}
 use Rattle.numbers.specs.Laws as laws
+use Rattle.numbers.proofs.Laws as laws_proved
 use Rattle.geom.specs.Point.{one}
 use Rattle.geom.specs.Steps.{steps}
 use Rattle.polyline.specs.Line.{shortest}
@@ -119,7 +120,7 @@ pub not_shortest : (d : Float) → T (fits binary64 d) → T (lt small d) → lt
 not_shortest d f h =
     let r = laws.lt_trans (shortest ⊗ shortest) small d square_small h in
     let z = laws.le_lt_trans zero64 (shortest ⊗ shortest) d (laws.square_up shortest shortest_fine) r in
-    not_less shortest (root d) (laws.root_over d shortest f shortest_fits shortest_fine z (shortest_above shortest (laws.le_refl shortest (laws.finite_number shortest shortest_fine))) r)
+    not_less shortest (root d) (laws_proved.root_over d shortest f shortest_fits shortest_fine z (shortest_above shortest (laws.le_refl shortest (laws.finite_number shortest shortest_fine))) r)
 
 -- d's root lies between lo and hi, both long enough to be sewn, and len can be divided by
 record Between (d lo hi len : Float) : Type 0 where
@@ -153,8 +154,8 @@ module _ (d lo hi len : Float) where
       let z = laws.le_lt_trans zero64 (lo ⊗ lo) d (laws.square_up lo f) r in
       record {
         long = a;
-        over = laws.root_over d lo fd fl f z (shortest_above lo a) r;
-        under = laws.root_under d hi fd fh g z (shortest_above hi h) s;
+        over = laws_proved.root_over d lo fd fl f z (shortest_above lo a) r;
+        under = laws_proved.root_under d hi fd fh g z (shortest_above hi h) s;
         lo_fine = f;
         hi_fine = g;
         len_fine = laws.between_finite zero64 len most tt m (laws.lt_le zero64 len p) q;

@@ -13,7 +13,8 @@ use Rattle.numbers.specs.Order.{smaller}
 use Rattle.numbers.specs.Whole.{floor, ceil}
 use Rattle.numbers.specs.Root.{root}
 use Rattle.numbers.specs.Value.{Within, AtLeast, IsWhole}
-use Rattle.numbers.specs.Laws.{smaller_has, real_mono, square_up, sum_up, div_up, root_up, within_root, within_finite, within_more, within_between, within_neg, within_add, within_sub, within_mul, within_div, within_real, within_literal, atleast_le, atleast_above, ceil_signed, floor_signed, ceil_unsigned}
+use Rattle.numbers.specs.Laws.{smaller_has, real_mono, square_up, sum_up, div_up, within_finite, within_more, within_between, within_neg, within_add, within_sub, within_mul, within_div, within_real, within_literal, atleast_le, atleast_above, ceil_signed, floor_signed, ceil_unsigned}
+use Rattle.numbers.proofs.Laws.{root_up, within_root}
 use Rattle.seqs.specs.Lists.{each, upto, All}
 use Rattle.seqs.specs.All.{all_map, all_append, all_sift}
 use Rattle.seqs.specs.Upto.{upto_all}

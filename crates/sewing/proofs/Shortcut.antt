@@ -12,6 +12,7 @@ use Rattle.numbers.specs.Root.{root}
 use Rattle.numbers.specs.Value.{AtLeast}
 use Rattle.numbers.specs.Whole.{whole_of, ceil}
 use Rattle.numbers.specs.Laws as laws
+use Rattle.numbers.proofs.Laws as laws_proved
 use Rattle.numbers.specs.Laws.{holds}
 use Rattle.seqs.specs.Tests.{clash}
 use Rattle.sewing.specs.Sewing.{cuts_at, cuts_for, OwnRoot, Decides}
@@ -49,7 +50,7 @@ own_root x f h k =
     let u = laws.lt_le zero64 small (laws.atleast_above 500 small small_least) in
     let i = laws.within_finite 800 (x ⊗ x) (laws.within_mul 400 400 x x (lit≤ tt) w w) in
     let j = laws.lt_le_trans zero64 (small ⊗ small) (x ⊗ x) small_square (laws.le_trans (small ⊗ small) (x ⊗ small) (x ⊗ x) (laws.mul_mono small x small s g s u h) (laws.mul_mono_right x small x g s g (laws.lt_le zero64 x p) h)) in
-    record { above = p; fine = g; some = j; whole = i; back = laws.root_square x f a i j }
+    record { above = p; fine = g; some = j; whole = i; back = laws_proved.root_square x f a i j }
 
 -- a longer step has no fewer cuts
 module _ (len : Float) (above : T (lt zero64 len)) (fine : T (finite len)) where
@@ -58,7 +59,7 @@ module _ (len : Float) (above : T (lt zero64 len)) (fine : T (finite len)) where
 
   cuts_mono : (d e : Float) → T (le zero64 d) → T (finite d) → T (finite e) → T (fits binary64 d) → T (fits binary64 e) → T (le d e) → cuts_for len d ≤ cuts_for len e
   unfolding cuts_for
-  cuts_mono d e u g g' f f' h = at_mono (root d) (root e) (laws.root_finite d f g u) (laws.root_finite e f' g' (laws.le_trans zero64 d e u h)) (laws.root_mono d e f f' u h)
+  cuts_mono d e u g g' f f' h = at_mono (root d) (root e) (laws_proved.root_finite d f g u) (laws_proved.root_finite e f' g' (laws.le_trans zero64 d e u h)) (laws_proved.root_mono d e f f' u h)
 
 -- below zero there is no root, and no cut
 cuts_below : (len d : Float) → T (lt d zero64) → cuts_for len d ≡ 0

@@ -7,6 +7,7 @@ use Rattle.std.specs.Float.Ieee.{round, fits, lt, le, is_nan}
 use Rattle.numbers.specs.Num.{◌⊗◌, literal, zero64}
 use Rattle.numbers.specs.Root.{isqrt, near_root, root_units, root}
 use Rattle.numbers.specs.Laws as laws
+use Rattle.numbers.proofs.Laws as laws_proved
 use Rattle.numbers.specs.Laws.{holds}
 use Rattle.seqs.specs.Tests.{refute, is_true}
 use Rattle.geom.specs.declared.point.P.{P}
@@ -28,13 +29,13 @@ past_six = tt
 not_over_six : (d : Float) → T (fits binary64 d) → T (le d (literal 36 1)) → lt (literal 6 1) (root d) ≡ false
 unfolding literal round lt is_nan
 not_over_six d f h = elim (laws.le_or_lt zero64 d tt (laws.le_left d (literal 36 1) h)) [
-  | inl z ↦ refute _ (λ e. absurd (laws.le_lt_clash (root d) (root (literal 36 1)) (laws.root_mono d (literal 36 1) f (unfold fits in tt) z h) (rw root_six (holds e))))
+  | inl z ↦ refute _ (λ e. absurd (laws.le_lt_clash (root d) (root (literal 36 1)) (laws_proved.root_mono d (literal 36 1) f (unfold fits in tt) z h) (rw root_six (holds e))))
   | inr z ↦ rw (laws.root_below d z)
 ]
 
 over_six : (d : Float) → T (fits binary64 d) → T (le past d) → lt (literal 6 1) (root d) ≡ true
 unfolding literal round
-over_six d f h = is_true _ (laws.lt_le_trans (literal 6 1) (root past) (root d) past_six (laws.root_mono past d (unfold fits in tt) f (unfold le in tt) h))
+over_six d f h = is_true _ (laws.lt_le_trans (literal 6 1) (root past) (root d) past_six (laws_proved.root_mono past d (unfold fits in tt) f (unfold le in tt) h))
 
 square_fits : (v : P) (d : Float) → d ≡ dot v v → T (fits binary64 d)
 square_fits v d g = rw g (laws.add-fits binary64 (v.x ⊗ v.x) (v.y ⊗ v.y))
