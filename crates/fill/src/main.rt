@@ -1,7 +1,8 @@
 // The program `fill`: one job from standard input, its points to standard output. All that decides anything is in `desk`
 // and `jobs`; this reads, lends the slices that document 01 names, and prints.
 #![tactic(auto)]
-ghost use Rattle.std.specs.Prelude.{◌≡◌, ◌++◌, ◌≤◌, length, drop, replicate};
+
+ghost use Rattle.std.specs.Prelude.{◌≡◌, ◌++◌, ◌≤◌, length, drop, replicate, IfOk};
 ghost use Rattle.numbers.specs.Num.{zero64};
 ghost use Rattle.layers.specs.Layers.{slices};
 ghost use Rattle.desk.specs.Desk.{job_left};
@@ -12,7 +13,8 @@ use desk::fill_job;
 use desk::two::fill_job2;
 use jobs::listing;
 use layers::Both;
-use libc::{STDIN_FILENO, STDOUT_FILENO};
+use std::io;
+use std::io::{Read, Write};
 use tatami::Filled;
 
 // A job, of version 2, has at most 97 + 2 * 255 + 16 * 1,024 bytes: one more is enough to see that it is too long.
@@ -161,10 +163,26 @@ fn paper() -> [u8; LISTINGS]
     [0; LISTINGS]
 }
 
-fn main() {
+// Reads until `bytes` is full or the input ends; answers how many bytes.
+fn read_full<R: Read>(input: &mut R, bytes: &mut [u8]) -> io::Result<usize>
+    ensures { IfOk result (λ n. n ≤ length bytes.new) }
+{
+    let mut n = 0;
+    while n < bytes.len() {
+        let k = input.read(&mut bytes[n..])?;
+        if k == 0 {
+            break;
+        }
+        n += k;
+    }
+    Ok(n)
+}
+
+// A read or a write that fails ends the program with its error.
+fn main(rt: HostRuntime) -> io::Result<()> {
     let mut bytes = [0u8; BYTES];
     let mut out = paper();
-    let n = io::read_full(STDIN_FILENO, &mut bytes);
+    let n = read_full(&mut rt.stdin(), &mut bytes)?;
     let k = answer(&bytes[..n], &mut out);
-    io::write_all(STDOUT_FILENO, &out[..k]);
+    rt.stdout().write_all(&out[..k])
 }

@@ -1,0 +1,24 @@
+-- What a job leaves, listed. Assumes nothing.
+use lib.Ieee.{of_bits}
+use mathlib.Core.Path.{◌∙◌, ap}
+use mathlib.Core.List.{◌++◌}
+use native.Mathlib.Omega.{arith}
+use lib.ListN.{length, drop, replicate}
+use Rattle.numbers.specs.Num.{zero64}
+use Rattle.desk.specs.Listing.{lent_left, printed1}
+use Rattle.desk.specs.ListingLaws.{job_told, told_read, listing_is}
+use borrow.Author.Rules.{rules}
+use Rattle.fill.proofs.answer1.Goals as goal
+
+pub listing-requires : goal.listing-requires
+unfolding of_bits
+listing-requires c =
+    let f = c.fill-r.ensures in
+    let t = told_read (lent_left c.args.bytes.now) f.0 f.1 f.2 (job_told (replicate 8192 zero64) (replicate 8192 zero64) (replicate 512 0) (replicate 8192 0) c.args.bytes.now 2048 255) in
+    (t.0, t.1, omega (arith, c.requires))
+
+pub returns : goal.returns
+unfolding of_bits printed1
+returns c =
+    let f = c.fill-r.ensures in
+    let e = listing_is (lent_left c.args.bytes.now) f.0 f.1 f.2 in record { out_after = c.listing.ensures.out_after ∙ ap (λ l. l ++ drop c.listing.result c.args.out.now) e; value = c.listing.ensures.value.0 ∙ ap length e }
