@@ -1,4 +1,4 @@
-/* Beahcerot's C entries, made by tools/header from crates/exports, exports_fill and exports_other. x86-64; link libexports.a (tools/archive).
+/* Beahcerot's C entries, made by tools/header from crates/exports_c. x86-64; link libexports.a (tools/archive).
  *
  * A slice is a pointer and a count of elements. Everything is the caller's: nothing is kept or freed, and the slices
  * of one call must not overlap. A rule is 0 for NonZero, any other number for EvenOdd. A call that can refuse answers

@@ -1,11 +1,10 @@
 //! The program `fill` run on a job's bytes. BEAHCEROT_FILL names another program than
-//! `target/bin/fill`.
+//! `target/bin/fill` (`tools/program`).
 
 use crate::job::{wanted1, wanted2};
 use std::io::{Read, Write, stderr};
 use std::path::{Path, PathBuf};
 use std::process::{Child, Command, Stdio};
-use std::sync::OnceLock;
 use std::thread::JoinHandle;
 use std::time::{Duration, Instant};
 
@@ -27,32 +26,13 @@ pub fn program() -> Option<PathBuf> {
     None
 }
 
-/// What stands in front of an x86-64 program on this machine: nothing, or an emulator.
-fn emulator() -> &'static [String] {
-    static WORDS: OnceLock<Vec<String>> = OnceLock::new();
-    WORDS.get_or_init(|| {
-        let tool = concat!(env!("CARGO_MANIFEST_DIR"), "/../tools/x86");
-        let said = Command::new(tool).output().expect("tools/x86 runs");
-        assert!(said.status.success(), "tools/x86: {}", said.status);
-        let words = String::from_utf8(said.stdout).expect("text");
-        words.split_whitespace().map(String::from).collect()
-    })
-}
-
 pub fn start(program: &Path, stdin: Stdio) -> Child {
-    let mut command = match emulator() {
-        [] => Command::new(program),
-        [first, rest @ ..] => {
-            let mut command = Command::new(first);
-            command.args(rest).arg(program);
-            command
-        }
-    };
-    command
+    Command::new(program)
         .stdin(stdin)
         .stdout(Stdio::piped())
-        .stderr(Stdio::piped());
-    command.spawn().expect("the program doesn't start")
+        .stderr(Stdio::piped())
+        .spawn()
+        .expect("the program doesn't start")
 }
 
 /// All that comes out of a stream, read beside other work.

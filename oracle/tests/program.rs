@@ -1,6 +1,7 @@
 //! The program `fill` by its bytes: what it prints for a job on standard input,
 //! against document 01's framing and checks and the original's answer. It needs
-//! no archive, but `target/bin/fill`; BEAHCEROT_FILL names another program.
+//! no archive, but `target/bin/fill` (`tools/program`); BEAHCEROT_FILL names
+//! another program.
 //! Without one the tests are skipped with a line, and fail where BEAHCEROT_GATE
 //! is set.
 

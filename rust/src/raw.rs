@@ -1,4 +1,4 @@
-//! The library's C entries, made by tools/header from crates/exports, exports_fill and exports_other.
+//! The library's C entries, made by tools/header from crates/exports_c.
 
 #[link(name = "exports", kind = "static")]
 #[rustfmt::skip]
