@@ -117,21 +117,21 @@ module _ (a b sync : List Float) (g : Satin) (work room : ℕ) (h : column_refus
     each_sized : (sized both (underlay_steps g) ≡ true) × (sized both (top_steps g) ≡ true)
     each_sized = sized_each both g (was_sized both (pass_steps g) (column both g) work room some whole.2)
 
-    the-need : need both (most (most_of both (underlay_steps g)) (most_of both (top_steps g))) ≤ work
-    the-need = rw (most_halves both g) at (had_work both (pass_steps g) (column both g) work room some whole.2)
+    the_need : need both (most (most_of both (underlay_steps g)) (most_of both (top_steps g))) ≤ work
+    the_need = rw (most_halves both g) at (had_work both (pass_steps g) (column both g) work room some whole.2)
 
   pub under_alone : (room₁ : ℕ) → underlay_refusal a b sync g work room₁ ≡ fitted (underlay both g) room₁
   unfolding underlay_refusal
   under_alone room₁ = rw (whole.0, tested 2 (good_satin g) whole.1) (elim (either (few both)) [
     | inl e ↦ few_done both (underlay_steps g) (underlay both g) work room₁ e ∙ sym (no_room (underlay both g) room₁ (no_underlay both g e))
-    | inr e ↦ answer_fitted both (underlay_steps g) (underlay both g) work room₁ e (each_sized e).0 (need_below both _ _ work (most_left (most_of both (underlay_steps g)) (most_of both (top_steps g))) (the-need e))
+    | inr e ↦ answer_fitted both (underlay_steps g) (underlay both g) work room₁ e (each_sized e).0 (need_below both _ _ work (most_left (most_of both (underlay_steps g)) (most_of both (top_steps g))) (the_need e))
   ])
 
   pub top_alone : (room₂ : ℕ) (far : Bool) → top_refusal a b sync g far work room₂ ≡ fitted (top far both g) room₂
   unfolding top_refusal
   top_alone room₂ far = rw (whole.0, tested 2 (good_satin g) whole.1) (elim (either (few both)) [
     | inl e ↦ few_done both (top_steps g) (top far both g) work room₂ e ∙ sym (no_room (top far both g) room₂ (no_top both g e far))
-    | inr e ↦ answer_fitted both (top_steps g) (top far both g) work room₂ e (each_sized e).1 (need_below both _ _ work (most_right (most_of both (underlay_steps g)) (most_of both (top_steps g))) (the-need e))
+    | inr e ↦ answer_fitted both (top_steps g) (top far both g) work room₂ e (each_sized e).1 (need_below both _ _ work (most_right (most_of both (underlay_steps g)) (most_of both (top_steps g))) (the_need e))
   ])
 
 -- ---- what the calls leave

@@ -36,17 +36,17 @@ abbrev sewn_square : ℕ → ℕ → Left
 sewn_square floats wholes = left (record { answer = DONE; sections = 1; points = 4 }) (n 0 ∷ n 2 ∷ n 10 ∷ n 2 ∷ n 10 ∷ n 6 ∷ n 0 ∷ n 6 ∷ []) (4 ∷ []) (replicate floats zero64) (replicate wholes 0)
 
 -- each from its own need
-pub k1-both :
+pub k1_both :
     (plain_tatami_left corners (4 ∷ []) NonZero set 1 false (replicate 8 zero64) (0 ∷ []) (replicate 8 (n 1)) (replicate 12 1) ≡ sewn_square 8 12)
     × (tatami_left corners (4 ∷ []) NonZero set 1 false (replicate 8 zero64) (0 ∷ []) (replicate 20 (n 1)) (replicate 20 1) ≡ sewn_square 20 20)
 unfolding add sub mul div neg lt le eq of_int round to_signed to_unsigned to_bits size odd is_nan literal negative before smaller larger magnitude whole_of floor ceil isqrt near_root root_units root len dist lerp along Rattle.outlines.specs.Winding.edge Rattle.outlines.specs.Winding.edges ring winding inside point_inside sides_to sides edge_of kept_side turned edges how_many through ymin ymax k_lo k_hi row_numbers row_at starts lives cross_x by_x crossed dir crossing same_x merged_from merged crossings spans shrink piece_of min_row wide pieces_at pieces_of overlap link_ends link_inside connects joined joins row_entries begun entries met row_list section sections cycle rem_euclid offset min_end m0 m1 needles row_points parts between sew_from sew sewn tatami points cut rings rising largest within good_number good_numbers good_spacing good_len good_inset good_turn good_outline good_settings gate roomed refusal sewn_points tatami_answer finite plain_roomed plain_refusal plain_tatami_answer plain_tatami_left tatami_left sewn_ends flat
-k1-both = (refl, refl)
+k1_both = (refl, refl)
 
 -- what is enough for the plain engine is WORK for the sweep; one short of either slice is WORK for the plain engine too; then ROOM
-pub k1-need :
+pub k1_need :
     (tatami_answer corners (4 ∷ []) NonZero set 1 false 8 12 8 1 ≡ WORK)
     × (plain_tatami_answer corners (4 ∷ []) NonZero set 1 false 7 12 8 1 ≡ WORK)
     × (plain_tatami_answer corners (4 ∷ []) NonZero set 1 false 8 11 8 1 ≡ WORK)
     × (plain_tatami_answer corners (4 ∷ []) NonZero set 1 false 8 12 7 1 ≡ ROOM)
 unfolding add sub mul div neg lt le eq of_int round to_signed to_unsigned to_bits size odd is_nan literal negative before smaller larger magnitude whole_of floor ceil isqrt near_root root_units root len dist lerp along Rattle.outlines.specs.Winding.edge Rattle.outlines.specs.Winding.edges ring winding inside point_inside sides_to sides edge_of kept_side turned edges how_many through ymin ymax k_lo k_hi row_numbers row_at starts lives cross_x by_x crossed dir crossing same_x merged_from merged crossings spans shrink piece_of min_row wide pieces_at pieces_of overlap link_ends link_inside connects joined joins row_entries begun entries met row_list section sections cycle rem_euclid offset min_end m0 m1 needles row_points parts between sew_from sew sewn tatami points cut rings rising largest within good_number good_numbers good_spacing good_len good_inset good_turn good_outline good_settings gate roomed refusal sewn_points tatami_answer finite plain_roomed plain_refusal plain_tatami_answer plain_tatami_left tatami_left sewn_ends flat
-k1-need = (refl, refl, refl, refl)
+k1_need = (refl, refl, refl, refl)

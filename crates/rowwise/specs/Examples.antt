@@ -25,13 +25,13 @@ squares = upright 20 true ∷ upright 10 false ∷ upright 10 true ∷ upright 0
 abbrev next : Float → ℕ → Crossing
 next after at = fold (meet (record { y = n 5; after = after; at = at })) (none_yet at) squares
 
-pub one-after-the-other :
+pub one_after_the_other :
     (next (inf true) 0 ≡ record { x = n 0; dir = negsuc 0; next = 1 })
     × (next (n 0) 1 ≡ record { x = n 10; dir = pos 0; next = 3 })
     × (next (n 10) 3 ≡ record { x = n 20; dir = pos 1; next = 4 })
     × (next (n 20) 4 ≡ none_yet 4)
 unfolding add sub mul div lt le of_int round size odd literal before dir
-one-after-the-other = (refl, refl, refl, refl)
+one_after_the_other = (refl, refl, refl, refl)
 
 -- they are the row's crossings behind the first of all numbers
 pub all_behind : behind (n 5) squares (inf true) ≡ (n 0, negsuc 0) ∷ (n 10, pos 0) ∷ (n 20, pos 1) ∷ []

@@ -61,10 +61,10 @@ module _ (corners : List Float) (ends : List ℕ) (g : Settings) (stagger : ℕ)
         waiting w ks (rows_fair (rings corners ends) g stagger known) (rows_down g es) order o
 
     -- so by insertion from the back
-    pub sweep-back-exact :
+    pub sweep_back_exact :
         swept_by (λ y l. fold (insert_back (by_x es y)) [] l) rule g es [] waiting ks
         ≡ map (pieces_of rule g es) ks
-    sweep-back-exact =
+    sweep_back_exact =
         sweep_by_exact (λ y l. fold (insert_back (by_x es y)) [] l)
         (λ k h l. backs_sort (by_x es (row_at g k)) (rows_strict (rings corners ends) g stagger known k h) l)
 
