@@ -23,12 +23,10 @@ fn put_pass(out: &mut [f64], k: usize, n: usize, back: bool) -> usize
     ensures { (out.new ≡ put out.old k (flat (pass (standing out.old n) back))) × (result ≡ k + 2 * (n - 1)) }
 {
     let mut at = k;
-    let mut r = 1;
-    while r < n {
+    for r in 1..n {
         let p = corner(out, 2 * place(r, n, back));
         put_point(out, at, p);
         at += 2;
-        r += 1;
     }
     at
 }
@@ -39,10 +37,8 @@ pub fn put_passes(out: &mut [f64], n: usize, passes: u64)
     ensures { out.new ≡ put out.old (2 * n) (flat (passes_from (standing out.old n) 1 (passes - 1))) }
 {
     let mut at = 2 * n;
-    let mut pass: u64 = 1;
-    while pass < passes {
+    for pass in 1..passes {
         at = put_pass(out, at, n, pass % 2 == 1);
-        pass += 1;
     }
 }
 
@@ -55,10 +51,8 @@ pub fn count_passes(n: u64, passes: u64, room: u64) -> u64
         return 0;
     }
     let mut c = n;
-    let mut t: u64 = 1;
-    while t < passes {
+    for _ in 1..passes {
         c = add_within(c, n - 1, room);
-        t += 1;
     }
     c
 }

@@ -1,4 +1,4 @@
--- `count_passes` meets its contract: the points so far and those of the passes from t on come to the answer. Assumes nothing.
+-- `count_passes` meets its contract: the points so far and those of the passes from counter on come to the answer. Assumes nothing.
 use mathlib.Core.Path.{◌≡◌, sym, ap, ◌∙◌}
 use Prim.Native.Nat.{◌+◌, ◌-◌, ◌*◌}
 use native.Mathlib.Omega.{arith}
@@ -15,15 +15,15 @@ returns-then-n-eq0 c =
     let z : a.n - 1 ≡ 0 = omega (arith, c.if-n-eq0.true) in
     sym (rw (c.if-n-eq0.true, mul-zero) (capped_in a.room 0 (omega arith)))
 
-pub loop-t-preserved : goal.loop-t-preserved
-loop-t-preserved c =
+pub loop-preserved : goal.loop-preserved
+loop-preserved c =
     let a = c.args in
-    let l = c.loop-t in
+    let l = c.loop in
     let s = a.n - 1 in
-    (rw c.add_within-c.ensures (capped_small a.room (l.c + s)), rw c.add_within-c.ensures (capped_on a.room (l.c + s) ((a.passes - (l.t + 1)) * s) ∙ ap (capped a.room) (omega (arith, passes_left l.t a.passes s (search rules))) ∙ l.invariant.1))
+    (rw c.add_within-c.ensures (capped_small a.room (l.c + s)), rw c.add_within-c.ensures (capped_on a.room (l.c + s) ((a.passes - (l.counter + 1)) * s) ∙ ap (capped a.room) (omega (arith, passes_left l.counter a.passes s (search rules))) ∙ l.invariant.1))
 
 pub returns : goal.returns
 returns c =
     let a = c.args in
-    let l = c.loop-t in
-    sym (capped_still a.room l.c l.invariant.0) ∙ ap (capped a.room) (omega (arith, passes_done l.t a.passes (a.n - 1) (search rules))) ∙ l.invariant.1
+    let l = c.loop in
+    sym (capped_still a.room l.c l.invariant.0) ∙ ap (capped a.room) (omega (arith, passes_done l.counter a.passes (a.n - 1) (search rules))) ∙ l.invariant.1

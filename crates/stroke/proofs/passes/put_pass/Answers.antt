@@ -15,40 +15,40 @@ pub loop-r-init : goal.loop-r-init
 unfolding pass
 loop-r-init c =
     let a = c.args in
-    (search rules, search rules, front_from a.out.now (flat (pass (standing a.out.now a.n) a.back)) a.k (omega (arith, c.requires)))
+    (search rules, front_from a.out.now (flat (pass (standing a.out.now a.n) a.back)) a.k (omega (arith, c.requires)))
 
 pub overflow_mul-place : goal.overflow_mul-place
-overflow_mul-place c = omega (arith, c.place.ensures, place_below c.args.back c.loop-r.r c.args.n (search rules), c.requires, c.loop-r.invariant.2.len)
+overflow_mul-place c = omega (arith, c.place.ensures, place_below c.args.back c.loop-r.r c.args.n (search rules), c.requires, c.loop-r.invariant.1.len)
 
 pub corner-p-requires : goal.corner-p-requires
-corner-p-requires c = omega (arith, c.place.ensures, place_below c.args.back c.loop-r.r c.args.n (search rules), c.requires, c.loop-r.invariant.2.len)
+corner-p-requires c = omega (arith, c.place.ensures, place_below c.args.back c.loop-r.r c.args.n (search rules), c.requires, c.loop-r.invariant.1.len)
 
 pub put_point-requires : goal.put_point-requires
 put_point-requires c =
     let a = c.args in
     let l = c.loop-r in
-    omega (arith, pass_room a.k a.n a.back l.r l.invariant.2 c.requires.0 c.requires.1 l.invariant.1 (search rules))
+    omega (arith, pass_room a.k a.n a.back l.r l.invariant.1 c.requires.0 c.requires.1 l.invariant.0 (search rules))
 
 pub overflow_add-at : goal.overflow_add-at
 overflow_add-at c =
     let a = c.args in
     let l = c.loop-r in
-    omega (arith, pass_room a.k a.n a.back l.r l.invariant.2 c.requires.0 c.requires.1 l.invariant.1 (search rules))
+    omega (arith, pass_room a.k a.n a.back l.r l.invariant.1 c.requires.0 c.requires.1 l.invariant.0 (search rules))
 
 pub loop-r-preserved : goal.loop-r-preserved
 loop-r-preserved c =
     let a = c.args in
     let l = c.loop-r in
     let e = rw (c.corner-p.ensures, c.place.ensures) at c.put_point.ensures in
-    (search rules, search rules, pass_step a.k a.n a.back l.r l.invariant.2 c.requires.0 c.requires.1 l.invariant.1 (search rules) _ e)
+    (search rules, pass_step a.k a.n a.back l.r l.invariant.1 c.requires.0 c.requires.1 l.invariant.0 (search rules) _ e)
 
 pub shape_of-out : goal.shape_of-out
-shape_of-out c = c.loop-r.invariant.2.len
+shape_of-out c = c.loop-r.invariant.1.len
 
 pub returns : goal.returns
 returns c =
     let a = c.args in
     let l = c.loop-r in
     let one = standing a.out.now a.n in
-    let f = put_end (flat (pass one a.back)) a.k (omega (arith, c.requires)) (front_at (flat_none (pass_none a.out.now a.n (omega (arith, c.requires)) a.back l.r (search rules))) l.invariant.2) in
+    let f = put_end (flat (pass one a.back)) a.k (omega (arith, c.requires)) (front_at (flat_none (pass_none a.out.now a.n (omega (arith, c.requires)) a.back l.r (search rules))) l.invariant.1) in
     (f.0, omega (arith, f.1, flat_length (pass one a.back), pass_length one a.back, standing_length a.out.now a.n (omega (arith, c.requires))))

@@ -9,7 +9,4 @@ use Rattle.stroke.specs.RunningLaws.{turned}
 use Rattle.stroke.proofs.passes.put_pass.Given as goal
 
 abbrev pub invariant-loop-r : goal.invariant-loop-r
-invariant-loop-r l = (1 ≤ l.r) × (l.k ≤ l.at) × Front l.initial.out l.out l.at (flat (drop l.r (turned (standing l.initial.out l.n) l.back))) (take l.k l.initial.out ++ flat (pass (standing l.initial.out l.n) l.back))
-
-abbrev pub decreases-loop-r : goal.decreases-loop-r
-decreases-loop-r l = l.n - l.r
+invariant-loop-r l = (l.k ≤ l.at) × Front l.initial.out l.out l.at (flat (drop l.r (turned (standing l.initial.out l.n) l.back))) (take l.k l.initial.out ++ flat (pass (standing l.initial.out l.n) l.back))

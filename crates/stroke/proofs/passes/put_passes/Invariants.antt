@@ -9,6 +9,3 @@ use Rattle.stroke.proofs.passes.put_passes.Given as goal
 
 abbrev pub invariant-loop-pass : goal.invariant-loop-pass
 invariant-loop-pass l = (2 * l.n ≤ l.at) × Front l.initial.out l.out l.at (flat (passes_from (standing l.initial.out l.n) l.pass (l.passes - l.pass))) (take (2 * l.n) l.initial.out ++ flat (passes_from (standing l.initial.out l.n) 1 (l.passes - 1)))
-
-abbrev pub decreases-loop-pass : goal.decreases-loop-pass
-decreases-loop-pass l = l.passes - l.pass
