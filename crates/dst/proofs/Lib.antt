@@ -1,2 +1,3 @@
 mod WaySteps
+mod Bits
 mod ThreadSteps

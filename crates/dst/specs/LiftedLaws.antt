@@ -33,6 +33,12 @@ module _ (a b : ℕ) where
   pub gap_down : b ≤ a → lowered b -ℤ lowered a ≡ neg_ℤ (pos (a - b))
   gap_down h = same_int (lowered b -ℤ lowered a) (neg_ℤ (pos (a - b))) (omega (arith, gap_parts, neg_above (pos (a - b)), neg_below (pos (a - b))))
 
+  pub gap_is : nat_abs (lowered b -ℤ lowered a) ≡ (a - b) + (b - a)
+  gap_is = let z = lowered b -ℤ lowered a in elim (one_side z) [
+    | inl e ↦ omega (arith, e, gap_parts, abs_parts z)
+    | inr e ↦ omega (arith, e, gap_parts, abs_parts z)
+  ]
+
 -- ---- cuts
 
 quotient_down : (m i n : ℕ) → quotient (neg_ℤ (pos m)) i n ≡ neg_ℤ (pos (i * m / n))

@@ -14,10 +14,7 @@ fn plus(w: u64, t: u64) -> u64
     requires { 0 < w }
     ensures { (result ≡ plus w t) × (result ≤ 1) }
 {
-    if t / w % 3 == 2 {
-        return 1;
-    }
-    0
+    u64::from(t / w % 3 == 2)
 }
 
 // Whether it is taken off.
@@ -25,10 +22,7 @@ fn minus(w: u64, t: u64) -> u64
     requires { 0 < w }
     ensures { (result ≡ minus w t) × (result ≤ 1) }
 {
-    if t / w % 3 == 0 {
-        return 1;
-    }
-    0
+    u64::from(t / w % 3 == 0)
 }
 
 // The first byte with the weights 1 and 9, the second with 3 and 27.

@@ -6,32 +6,14 @@ ghost use Rattle.dst.specs.Lifted.{lowered, whole_at, Framed};
 
 use crate::records::{Kind, put_record};
 
-fn gap(a: u64, b: u64) -> u64
-    ensures { result ≡ nat_abs (lowered b -ℤ lowered a) }
-{
-    if a < b {
-        return b - a;
-    }
-    a - b
-}
-
-fn most(a: u64, b: u64) -> u64
-    ensures { result ≡ max a b }
-{
-    if a < b {
-        return b;
-    }
-    a
-}
-
 // How many records the way takes.
 pub fn parts(ax: u64, ay: u64, bx: u64, by: u64) -> u64
     requires { Framed ax ay bx by }
     ensures { (result ≡ parts (move (whole_at ax ay) (whole_at bx by))) × (result ≤ 1700) }
 {
-    let x = (gap(ax, bx) + 120) / 121;
-    let y = (gap(ay, by) + 120) / 121;
-    most(1, most(x, y))
+    let x = ax.abs_diff(bx).div_ceil(121);
+    let y = ay.abs_diff(by).div_ceil(121);
+    x.max(y).max(1)
 }
 
 // Where cut i of n lies on the way from a to b.
@@ -64,15 +46,13 @@ pub fn put_way(out: &mut [u8], at: usize, ax: u64, ay: u64, bx: u64, by: u64) ->
     let mut k = at;
     let mut x = ax;
     let mut y = ay;
-    let mut i: u64 = 1;
-    while i <= n {
+    for i in 1..=n {
         let nx = cut(ax, bx, n, i);
         let ny = cut(ay, by, n, i);
         put_record(out, k, kind_at(i, n), 121 + nx - x, 121 + ny - y);
         x = nx;
         y = ny;
         k += 3;
-        i += 1;
     }
     k
 }

@@ -3,13 +3,12 @@ use mathlib.Core.Path.{◌≡◌, refl, sym, ◌∙◌}
 use Prim.Native.Nat.{◌+◌, ◌*◌, ◌/◌, ◌≤◌, ◌<◌}
 use native.Mathlib.Omega.{arith}
 use lib.ListN.{length}
-use borrow.Author.Tests.{not-true, not-false, eq-eqb, ne_eqb, le-leb, lt-leb}
+use borrow.Author.Tests.{eq-eqb, ne_eqb, le-leb, lt-leb}
 use Rattle.seqs.specs.Capped.{capped_exact, capped_past}
 use Rattle.geom.specs.Outline.{points}
 use Rattle.dst.specs.Thread.{origin, thread, dst_bytes}
 use Rattle.dst.specs.ThreadLaws.{bytes_length}
 use Rattle.dst.specs.Answers.{dst_refusal, dst_written, dst_output}
-use borrow.Author.Rules.{rules}
 use Rattle.dst.proofs.dst.Goals as goal
 
 pub returns-then-points-ne0 : goal.returns-then-points-ne0

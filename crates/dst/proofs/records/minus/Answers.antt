@@ -1,14 +1,10 @@
-use mathlib.Core.Path.{sym, ap}
-use native.Mathlib.Omega.{arith}
-use borrow.Author.Tests.{eq-eqb, ne_eqb}
-use Rattle.dst.specs.Records.{bit, minus}
-use borrow.Author.Rules.{rules}
+use Rattle.std.proofs.Common.{◌%◌, ◌/◌, eqb, ◌∙◌, arith}
+use Rattle.dst.specs.Records.{minus}
+use Rattle.dst.proofs.Bits.{bit_is}
 use Rattle.dst.proofs.records.minus.Goals as goal
-
-pub returns-then-t-w-eq0 : goal.returns-then-t-w-eq0
-unfolding minus
-returns-then-t-w-eq0 c = (sym (ap bit (eq-eqb _ 0 c.if-t-w-eq0.true)), omega arith)
 
 pub returns : goal.returns
 unfolding minus
-returns c = (sym (ap bit (ne_eqb _ 0 c.if-t-w-eq0.false)), omega arith)
+returns c =
+    let b = bit_is (eqb (c.args.t / c.args.w % 3) 0) in
+    (c.from.ensures ∙ b.0, omega (arith, b, c.from.ensures))

@@ -2,7 +2,6 @@ use native.Mathlib.Omega.{arith}
 use lib.ListN.{length-set}
 use Rattle.seqs.specs.Wrote.{wrote_put, wrote_stores}
 use Rattle.dst.specs.Records.{end_record}
-use borrow.Author.Rules.{rules}
 use Rattle.dst.proofs.records.put_end.Goals as goal
 
 pub bounds-out-at-2 : goal.bounds-out-at-2

@@ -1,11 +1,10 @@
-use mathlib.Core.Path.{◌≡◌, sym, subst, ◌∙◌}
+use mathlib.Core.Path.{sym, subst, ◌∙◌}
 use Prim.Native.Nat.{◌≤◌}
 use native.Mathlib.Omega.{arith}
 use lib.Dec.{T}
-use Rattle.numbers.specs.Rounding.{nearest_whole, rounded}
+use Rattle.numbers.specs.Rounding.{rounded}
 use Rattle.dst.specs.LiftedLaws.{lowered_up, lowered_down}
 use Rattle.dst.specs.RoundingLaws.{nearest_small, nearest_counted}
-use borrow.Author.Rules.{rules}
 use Rattle.dst.proofs.rounding.lifted.Goals as goal
 
 pub returns-then-is_negative : goal.returns-then-is_negative

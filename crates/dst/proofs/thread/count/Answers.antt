@@ -1,12 +1,12 @@
 -- `count` meets its contract: the records so far and those of the points from i on come to the answer. Assumes nothing.
 use mathlib.Core.Path.{◌≡◌, sym, ap, ◌∙◌}
-use Prim.Native.Nat.{◌+◌, ◌-◌, ◌≤◌}
+use Prim.Native.Nat.{◌+◌}
 use native.Mathlib.Omega.{arith}
 use lib.ListN.{length, drop}
 use Rattle.seqs.specs.Slices.{capped}
 use Rattle.seqs.specs.Capped.{capped_small, capped_on, capped_still}
 use Rattle.geom.specs.Outline.{points}
-use Rattle.dst.specs.Thread.{origin, thread}
+use Rattle.dst.specs.Thread.{thread}
 use Rattle.dst.specs.Lifted.{whole_at}
 use Rattle.dst.specs.LiftedLaws.{lifted_origin}
 use Rattle.dst.proofs.ThreadSteps.{numbers_at, count_turn, count_stop}

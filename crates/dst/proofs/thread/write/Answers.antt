@@ -1,9 +1,9 @@
 -- `write` meets its contract: the records of the points from i on, and the end, are to be written from k on. Assumes nothing.
 use mathlib.Core.List.{[], ◌++◌}
-use Prim.Native.Nat.{◌+◌, ◌-◌, ◌≤◌}
+use Prim.Native.Nat.{◌+◌}
 use native.Mathlib.Omega.{arith}
-use lib.ListN.{length, drop}
-use Rattle.seqs.specs.Front.{Front, front_start, front_at, front_end, front_room_block, front_whole}
+use lib.ListN.{drop}
+use Rattle.seqs.specs.Front.{front_start, front_at, front_end, front_room_block, front_whole}
 use Rattle.geom.specs.Outline.{points}
 use Rattle.dst.specs.Records.{end_record}
 use Rattle.dst.specs.Thread.{way, thread, records_from, dst_bytes}

@@ -1,16 +1,12 @@
 -- `write` meets its contract: the records of the points from i on, and the end, are to be written from k on. Assumes nothing.
-use mathlib.Core.List.{[], ◌++◌}
-use Prim.Native.Nat.{◌+◌, ◌-◌, ◌≤◌}
-use native.Mathlib.Omega.{arith}
+use mathlib.Core.List.{◌++◌}
+use Prim.Native.Nat.{◌-◌, ◌≤◌}
 use lib.ListN.{length, drop}
-use Rattle.seqs.specs.Front.{Front, front_start, front_at, front_end, front_room_block, front_whole}
+use Rattle.seqs.specs.Front.{Front}
 use Rattle.geom.specs.Outline.{points}
 use Rattle.dst.specs.Records.{end_record}
-use Rattle.dst.specs.Thread.{way, thread, records_from, dst_bytes}
+use Rattle.dst.specs.Thread.{thread, records_from, dst_bytes}
 use Rattle.dst.specs.Lifted.{whole_at}
-use Rattle.dst.specs.LiftedLaws.{lifted_origin}
-use Rattle.dst.proofs.ThreadSteps.{numbers_at, write_turn, write_stop}
-use borrow.Author.Rules.{rules}
 use Rattle.dst.proofs.thread.write.Given as goal
 
 abbrev pub invariant-loop-i : goal.invariant-loop-i

@@ -2,7 +2,6 @@ use Prim.Native.Nat.{◌-◌, ◌≤◌}
 use native.Mathlib.Nat.{mul-le-mul}
 use native.Mathlib.Omega.{arith}
 use Rattle.dst.specs.LiftedLaws.{cut_most, cut_up, cut_down}
-use borrow.Author.Rules.{rules}
 use Rattle.dst.proofs.way.cut.Goals as goal
 
 pub overflow_mul-result : goal.overflow_mul-result
