@@ -1,5 +1,5 @@
 -- The point at s is found on the side that s lies on, and on no other: by the rail, and by that side alone. Assumes nothing.
-use Rattle.std.specs.Prelude.{ℕ, ◌+◌, ◌-◌, ◌*◌, ◌≤◌, ◌<◌, ◌≡◌, refl, Bool, true, false, cond, List, take, drop, get_or, Float}
+use Rattle.std.specs.Prelude.{ℕ, ◌+◌, ◌-◌, ◌*◌, ◌≤◌, ◌<◌, ◌≡◌, refl, Bool, true, false, List, take, drop, get_or, Float}
 use native.Mathlib.Omega.{arith}
 use Rattle.std.proofs.Common.{sym, ap, ◌∙◌, length-take, length-drop, get_or-take, get_or-drop}
 use Rattle.std.proofs.Math.Path.{subst}
@@ -14,7 +14,7 @@ use Rattle.geom.specs.declared.point.P.{P}
 use Rattle.geom.specs.Point.{point}
 use Rattle.geom.specs.Outline.{points}
 use Rattle.geom.specs.OutlineLaws.{points_part}
-use Rattle.satinrules.specs.Arc.{clamp, last, partition_point, side_end, corner_of, on_side, at}
+use Rattle.satinrules.specs.Arc.{clamp, last, partition_point, side_end, on_side, at}
 use Rattle.arc.specs.Rail.{Rising, Railed}
 use Rattle.arc.specs.RailLaws.{partition_at}
 

@@ -46,43 +46,29 @@ fn partition_point(cum: &[f64], s: f64) -> usize
     requires { Rising cum.now }
     ensures { (result ≡ partition_point s cum.now) × (result ≤ length cum.now) }
 {
-    let mut lo: usize = 0;
-    let mut hi: usize = cum.len();
-    while lo < hi {
-        let mid = lo + (hi - lo) / 2;
-        if cum[mid] <= s {
-            lo = mid + 1;
-        } else {
-            hi = mid;
-        }
-    }
-    lo
+    cum.partition_point(|c| *c <= s)
 }
 
+// f64::clamp asks lo ≤ hi, and nothing says so of a length that may be a NaN.
 fn clamp(s: f64, lo: f64, hi: f64) -> f64
     ensures { result ≡ clamp s lo hi }
 {
     if s < lo {
-        return lo;
+        lo
+    } else if s > hi {
+        hi
+    } else {
+        s
     }
-    if s > hi {
-        return hi;
-    }
-    s
 }
 
 // k, but at least 1 and at most n - 1.
+#[tactic(auto, using(std::proofs::lemmas::Bool::Decides::nat_tests), unfolding(satinrules::specs::Arc::side_end))]
 fn side_end(k: usize, n: usize) -> usize
     requires { 2 ≤ n }
     ensures { (result ≡ side_end k n) × (1 ≤ result) × (result < n) }
 {
-    if k < 1 {
-        return 1;
-    }
-    if k > n - 1 {
-        return n - 1;
-    }
-    k
+    k.clamp(1, n - 1)
 }
 
 // The corner at which the side ends that s lies on. A rail of two corners has one side, and nothing is looked for.
@@ -103,10 +89,7 @@ fn fraction(c: f64, d: f64, s: f64) -> f64
     ensures { result ≡ fraction c d s }
 {
     let seg = d - c;
-    if seg > 1e-12 {
-        return (s - c) / seg;
-    }
-    0.0
+    if seg > 1e-12 { (s - c) / seg } else { 0.0 }
 }
 
 // The point at s on the side that ends at corner i.
@@ -158,14 +141,12 @@ pub fn along<'a, 'b>(pts: &'a [f64], cum: &'b [f64], s: f64) -> P
 pub fn side_from(cum: &[f64], s: f64, k: usize) -> usize
     ensures { result ≡ k + not_beyond s (drop k cum.now) }
 {
-    let mut i = k;
-    while i < cum.len() {
+    for i in k..cum.len() {
         if s < cum[i] {
             return i;
         }
-        i += 1;
     }
-    i
+    k.max(cum.len())
 }
 
 // The same point. Places mostly go on from the last one, so the side that ends at corner k is tried first, and then the whole rail.
@@ -173,20 +154,8 @@ pub fn along_from(pts: &[f64], cum: &[f64], s: f64, k: usize) -> P
     requires { Railed pts.now cum.now }
     ensures { result ≡ at (points pts.now) cum.now s }
 {
-    if 0 < k {
-        if k < cum.len() {
-            let h = k - 1;
-            if 0.0 <= s {
-                if cum[h] <= s {
-                    if s < cum[k] {
-                        let e = k + 1;
-                        let b = 2 * h;
-                        let d = 2 * e;
-                        return along(&pts[b..d], &cum[h..e], s);
-                    }
-                }
-            }
-        }
+    if 0 < k && k < cum.len() && 0.0 <= s && cum[k - 1] <= s && s < cum[k] {
+        return along(&pts[2 * (k - 1)..2 * (k + 1)], &cum[k - 1..k + 1], s);
     }
     along(pts, cum, s)
 }

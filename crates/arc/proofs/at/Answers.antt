@@ -5,7 +5,6 @@ use borrow.Author.Tests.{eq-eqb, ne_eqb}
 use Rattle.geom.specs.Point.{point}
 use Rattle.geom.specs.OutlineLaws.{points_at}
 use Rattle.satinrules.specs.Arc.{at}
-use borrow.Author.Rules.{rules}
 use Rattle.arc.proofs.at.Goals as goal
 
 pub returns-then-n-eq1 : goal.returns-then-n-eq1

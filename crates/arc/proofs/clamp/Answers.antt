@@ -9,6 +9,6 @@ pub returns-then-s-hi : goal.returns-then-s-hi
 unfolding clamp
 returns-then-s-hi c = rw (c.if-s-lo.false, c.if-s-hi.true)
 
-pub returns : goal.returns
+pub returns-else-s-hi : goal.returns-else-s-hi
 unfolding clamp
-returns c = rw (c.if-s-lo.false, c.if-s-hi.false)
+returns-else-s-hi c = rw (c.if-s-lo.false, c.if-s-hi.false)

@@ -8,6 +8,6 @@ pub returns-then-seg : goal.returns-then-seg
 unfolding fraction tiny literal round of_bits
 returns-then-seg c = rw c.if-seg.true
 
-pub returns : goal.returns
+pub returns-else-seg : goal.returns-else-seg
 unfolding fraction tiny literal round of_bits
-returns c = rw c.if-seg.false
+returns-else-seg c = rw c.if-seg.false

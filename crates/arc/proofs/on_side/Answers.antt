@@ -5,7 +5,6 @@ use lib.Ieee.{nan}
 use Rattle.geom.specs.Point.{point}
 use Rattle.geom.specs.OutlineLaws.{points_at}
 use Rattle.satinrules.specs.Arc.{on_side}
-use borrow.Author.Rules.{rules}
 use Rattle.arc.proofs.on_side.Goals as goal
 
 pub returns : goal.returns

@@ -1,14 +1,9 @@
 -- `put_later_lengths` meets its contract: the running lengths of the corners from i on are to be written from `to` on. Assumes nothing.
-use Prim.Native.Nat.{◌-◌, ◌≤◌}
 use native.Mathlib.Omega.{arith}
-use mathlib.Core.List.{◌++◌}
-use lib.ListN.{length, take, drop}
 use lib.Ieee.{of_bits}
-use Rattle.seqs.specs.Front.{Front, front_from, front_at, front_room, front_push}
+use Rattle.seqs.specs.Front.{front_from, front_at, front_room, front_push}
 use Rattle.arc.proofs.Steps.{start_fits}
 use Rattle.seqs.specs.Wrote.{put_end}
-use Rattle.geom.specs.Outline.{points}
-use Rattle.satinrules.specs.Arc.{lengths_from}
 use Rattle.arc.specs.Rail.{later_lengths}
 use Rattle.arc.specs.RailLaws.{lengths_next, lengths_end}
 use borrow.Author.Rules.{rules}

@@ -1,11 +1,10 @@
 -- `side_from` meets its contract: what was passed does not lie beyond s. Assumes nothing.
 use mathlib.Core.Path.{◌≡◌, refl}
-use Prim.Native.Nat.{◌+◌, ◌-◌}
+use Prim.Native.Nat.{◌≤◌}
 use native.Mathlib.Omega.{arith}
 use lib.ListN.{length, drop}
 use Rattle.arc.specs.Rail.{not_beyond}
 use Rattle.arc.specs.RailLaws.{beyond_here, beyond_next, beyond_end}
-use borrow.Author.Rules.{rules}
 use Rattle.arc.proofs.side_from.Goals as goal
 
 pub loop-i-init : goal.loop-i-init
@@ -28,5 +27,6 @@ loop-i-preserved c =
 pub returns : goal.returns
 returns c =
     let a = c.args in
-    let z = beyond_end a.s a.cum.now c.loop-i.i (omega (arith, c.loop-i-test.false)) in
-    omega (arith, c.loop-i.invariant, z)
+    let z = beyond_end a.s a.cum.now c.loop-i.i c.loop-i-test.false in
+    let w : length a.cum.now ≤ a.k → not_beyond a.s (drop a.k a.cum.now) ≡ 0 = beyond_end a.s a.cum.now a.k in
+    grind (arith, c.loop-i.invariant, z, w)
