@@ -1,5 +1,5 @@
 -- What a record's kind is, and when a record is turned away. What it says of the move is `dst/specs/Said`. Definitions only.
-use Rattle.std.specs.Prelude.{ℕ, suc, ◌+◌, Bool, cond, not, ◌&&◌, ◌||◌, eqb, ltb}
+use Rattle.std.specs.Prelude.{ℕ, suc, ◌+◌, ◌*◌, ◌/◌, ◌%◌, Bool, cond, not, ◌&&◌, ◌||◌, eqb, ltb}
 use Rattle.dst.specs.Said.{bit_at}
 use Rattle.dst_read.specs.Names.{STITCH, JUMP, STOP}
 
@@ -24,3 +24,7 @@ is_end a b c = eqb a 0 && (eqb b 0 && eqb c 243)
 -- bit 7 alone is a jump, both a stop
 unfoldable pub mark_of : ℕ → ℕ
 mark_of c = cond (eqb (bit_at 7 c) 0) STITCH (cond (eqb (bit_at 6 c) 0) JUMP STOP)
+
+-- the weights whose bits are set: 1 and 3 by the bit of weight lo of the bytes a and b, 9, 27 and 81 by that of weight hi of all three
+abbrev pub weighed : ℕ → ℕ → ℕ → ℕ → ℕ → ℕ
+weighed lo hi a b c = a / lo % 2 + 3 * (b / lo % 2) + 9 * (a / hi % 2) + 27 * (b / hi % 2) + 81 * (c / hi % 2)

@@ -3,7 +3,7 @@ ghost use Rattle.std.specs.Prelude.{◌≡◌};
 ghost use Rattle.dst_read.specs.Reading.{verdict};
 
 use crate::names::{CUT, MOST_RECORDS, RECORD};
-use crate::records::{bad, is_end, wide};
+use crate::records::Record;
 use refusal::{DONE, SIZE};
 
 // The answer, and the number of the record that it was met at: of DONE, how many stand before the end.
@@ -16,12 +16,10 @@ pub struct Verdict {
 pub fn scan(bytes: &[u8]) -> Verdict
     ensures { result ≡ verdict 0 bytes.now }
 {
-    let mut r = 0;
-    while 3 * r + 3 <= bytes.len() {
-        let a = wide(bytes[3 * r]);
-        let b = wide(bytes[3 * r + 1]);
-        let c = wide(bytes[3 * r + 2]);
-        if is_end(a, b, c) {
+    let whole = bytes.len() / 3;
+    for r in 0..whole {
+        let record = Record::at(bytes, r);
+        if record.is_end() {
             return Verdict {
                 answer: DONE,
                 number: r,
@@ -33,16 +31,15 @@ pub fn scan(bytes: &[u8]) -> Verdict
                 number: r,
             };
         }
-        if bad(a, b, c) {
+        if record.is_bad() {
             return Verdict {
                 answer: RECORD,
                 number: r,
             };
         }
-        r += 1;
     }
     Verdict {
         answer: CUT,
-        number: r,
+        number: whole,
     }
 }

@@ -5,7 +5,7 @@ ghost use Rattle.dst.specs.Thread.{origin};
 ghost use Rattle.dst_read.specs.Reading.{points_from, coordinates, marks_of};
 ghost use Rattle.dst_read.specs.Lifted.{lowered, Roomy};
 
-use crate::records::{added_x, added_y, mark, taken_x, taken_y, wide};
+use crate::records::Record;
 use leaves::of_u64;
 
 const LIFT: u64 = 121000000;
@@ -27,16 +27,12 @@ pub fn write(bytes: &[u8], n: usize, points: &mut [f64], marks: &mut [u64])
 {
     let mut x = LIFT;
     let mut y = LIFT;
-    let mut r = 0;
-    while r < n {
-        let a = wide(bytes[3 * r]);
-        let b = wide(bytes[3 * r + 1]);
-        let c = wide(bytes[3 * r + 2]);
-        x = x + added_x(a, b, c) - taken_x(a, b, c);
-        y = y + added_y(a, b, c) - taken_y(a, b, c);
+    for r in 0..n {
+        let record = Record::at(bytes, r);
+        x = x + record.added_x() - record.taken_x();
+        y = y + record.added_y() - record.taken_y();
         points[2 * r] = back(x);
         points[2 * r + 1] = back(y);
-        marks[r] = mark(c);
-        r += 1;
+        marks[r] = record.mark();
     }
 }

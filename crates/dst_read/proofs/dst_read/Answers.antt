@@ -5,7 +5,6 @@ use borrow.Author.Tests.{ne_eqb, le-leb, lt-leb}
 use Rattle.dst_read.specs.declared.scan.Verdict.{Verdict}
 use Rattle.dst_read.specs.ReadingLaws.{verdict_few, verdict_stand}
 use Rattle.dst_read.specs.Answers.{points_read, read_refusal, dst_read, points_left, marks_left}
-use borrow.Author.Rules.{rules}
 use Rattle.dst_read.proofs.dst_read.Goals as goal
 
 pub returns-then-answer-eq-RECORD : goal.returns-then-answer-eq-RECORD

@@ -2,7 +2,6 @@ use mathlib.Core.Path.{ap, ◌∙◌}
 use native.Mathlib.Omega.{arith}
 use lib.Ieee.{neg}
 use Rattle.dst_read.specs.LiftedLaws.{real_up, real_down}
-use borrow.Author.Rules.{rules}
 use Rattle.dst_read.proofs.write.back.Goals as goal
 
 pub returns-then-x-lt-LIFT : goal.returns-then-x-lt-LIFT
