@@ -1,6 +1,6 @@
 -- What is proved of the top's stitches over pairs that stand in a slice. Assumes nothing.
-use Rattle.std.specs.Prelude.{ℕ, ◌+◌, ◌*◌, ◌≤◌, ◌<◌, ◌≡◌, refl, Bool, false, not, ◌&&◌, List, [], ◌∷◌, ◌++◌, length, take, drop, get_or, Float, T}
-use Rattle.std.proofs.Common.{arith, ap, ◌∙◌, length-take-le, get_or-take}
+use Rattle.std.specs.Prelude.{ℕ, suc, ◌+◌, ◌*◌, ◌/◌, ◌≤◌, ◌<◌, ◌≡◌, refl, Bool, false, not, ◌&&◌, List, [], ◌∷◌, ◌++◌, length, take, drop, get_or, Float, T}
+use Rattle.std.proofs.Common.{arith, sym, ap, ◌∙◌, append_assoc, drop-drop, length-take-le, get_or-take}
 use Rattle.std.proofs.Math.Bool.{true}
 use Rattle.std.specs.Float.{nan, binary64}
 use Rattle.std.specs.Float.Ieee.{fits, le, lt, round}
@@ -12,7 +12,7 @@ use Rattle.numbers.specs.FloatOrder.{le_lt_clash}
 use Rattle.seqs.specs.Tests.{refute}
 use Rattle.seqs.specs.Slices.{put}
 use Rattle.seqs.specs.Front.{Front, front_at, front_kept, next, none}
-use Rattle.seqs.specs.Wrote.{put_room}
+use Rattle.seqs.specs.Wrote.{head_length, put_room}
 use Rattle.geom.specs.declared.point.P.{P}
 use Rattle.geom.specs.Outline.{points}
 use Rattle.geom.specs.Sewing.{flat}
@@ -33,6 +33,20 @@ pub stitches_length : (g : Satin) (qs : List Pair) → length (stitches g qs) �
 unfolding stitches
 stitches_length g [] = refl
 stitches_length g (q ∷ qs) = from_length g false q (q ∷ qs)
+
+-- ---- a path's corners, copied as they stand
+
+pub flat_points : (l : List Float) → flat (points l) ≡ take (length l / 2 * 2) l
+unfolding flat points
+flat_points [] = refl
+flat_points (x ∷ []) = refl
+flat_points (x ∷ y ∷ l) =
+    let e : length (x ∷ y ∷ l) / 2 * 2 ≡ suc (suc (length l / 2 * 2)) = omega arith in
+    rw e (ap (λ (r : List Float). x ∷ y ∷ r) (flat_points l))
+
+-- a part of a slice, written whole
+pub mid_put : (d y : List Float) (k n : ℕ) → k ≤ length d → length y ≡ n → take k d ++ (y ++ drop n (drop k d)) ≡ put d k y
+mid_put d y k n h e = rw (head_length d y k h, ← e, drop-drop) (sym (append_assoc (take k d) y (drop (k + length y) d)))
 
 -- ---- one stitch, short or not
 

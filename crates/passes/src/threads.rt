@@ -52,12 +52,7 @@ fn point_of(thread: Thread, j: usize, q: Pair) -> P
         Thread::Middle => q.a.lerp(q.b, 0.5),
         Thread::SideA => inset(q).a,
         Thread::SideB => inset(q).b,
-        Thread::Alternate => {
-            if j % 2 == 1 {
-                return inset(q).b;
-            }
-            inset(q).a
-        }
+        Thread::Alternate => { if j % 2 == 1 { inset(q).b } else { inset(q).a } }
     }
 }
 
@@ -66,10 +61,7 @@ fn place(r: usize, n: usize, back: bool) -> usize
     requires { r < n }
     ensures { (result ≡ cond back (n - 1 - r) r) × (result < n) }
 {
-    if back {
-        return n - 1 - r;
-    }
-    r
+    if back { n - 1 - r } else { r }
 }
 
 // A pass over the pairs s, from k on; answers the place after it.
@@ -79,12 +71,10 @@ pub fn put_thread(out: &mut [f64], k: usize, s: &[f64], thread: Thread, back: bo
 {
     let n = s.len() / 4;
     let mut to = k;
-    let mut r = 0;
-    while r < n {
+    for r in 0..n {
         let j = place(r, n, back);
         put_point(out, to, point_of(thread, j, pair_in(s, 4 * j)));
         to += 2;
-        r += 1;
     }
     to
 }

@@ -19,8 +19,7 @@ pub fn spaced(style: Style, spacing: f64) -> f64
     ensures { result ≡ spaced style spacing }
 {
     match style {
-        Style::Plain => spacing,
-        Style::SStitch => spacing,
+        Style::Plain | Style::SStitch => spacing,
         Style::Zigzag => spacing * 3.0,
     }
 }
@@ -41,9 +40,10 @@ fn pulled(p: P, q: P, by: f64, short: bool) -> P
     ensures { result ≡ pulled p q by short }
 {
     if short {
-        return p.plus(q.minus(p).norm().times(by));
+        p.plus(q.minus(p).norm().times(by))
+    } else {
+        p
     }
-    p
 }
 
 // Both points moved out by the pull.
@@ -74,13 +74,7 @@ fn moved(w: Pair, near: bool, far: bool) -> Pair
 fn shortened(w: Pair, near: bool, far: bool) -> Pair
     ensures { result ≡ moved_in w near far }
 {
-    if near {
-        return moved(w, near, far);
-    }
-    if far {
-        return moved(w, near, far);
-    }
-    w
+    if near || far { moved(w, near, far) } else { w }
 }
 
 // The two points of pair q, after o.
@@ -88,13 +82,11 @@ fn stitch(g: Satin, second: bool, o: Pair, q: Pair) -> Pair
     ensures { result.a ∷ result.b ∷ [] ≡ stitch g second o q }
 {
     let w = widened(g, q);
-    if g.short_stitches {
-        if second {
-            return shortened(w, crowded(q.a, o.a), crowded(q.b, o.b));
-        }
-        return w;
+    if g.short_stitches && second {
+        shortened(w, crowded(q.a, o.a), crowded(q.b, o.b))
+    } else {
+        w
     }
-    w
 }
 
 // The top's stitches over the n pairs at the front, behind them.
@@ -105,14 +97,12 @@ pub fn put_stitches(w: &mut [f64], n: usize, g: Satin)
     let mut o = pair_in(w, 0);
     let mut second = false;
     let mut to = 4 * n;
-    let mut k = 0;
-    while k < n {
+    for k in 0..n {
         let q = pair_in(w, 4 * k);
         put_pair(w, to, stitch(g, second, o, q));
         o = q;
         second = !second;
         to += 4;
-        k += 1;
     }
 }
 
@@ -151,14 +141,9 @@ fn put_all(out: &mut [f64], k: usize, line: &[f64]) -> usize
     requires { k + length (flat (points line.now)) ≤ length out.old }
     ensures { (out.new ≡ put out.old k (flat (points line.now))) × (result ≡ k + length (flat (points line.now))) }
 {
-    let mut to = k;
-    let mut i = 0;
-    while i + 1 < line.len() {
-        put_point(out, to, corner(line, i));
-        to += 2;
-        i += 2;
-    }
-    to
+    let end = line.len() / 2 * 2;
+    out[k..k + end].copy_from_slice(&line[..end]);
+    k + end
 }
 
 fn put_plain(out: &mut [f64], k: usize, line: &[f64], split: Split) -> usize

@@ -45,10 +45,7 @@ fn bends(p: P, q: P) -> bool
 fn count_side(p: P, q: P) -> u64
     ensures { result ≡ cond (bends p q) 3 1 }
 {
-    if bends(p, q) {
-        return 3;
-    }
-    1
+    if bends(p, q) { 3 } else { 1 }
 }
 
 // The points of side k, from `to` on; answers the place after them.

@@ -23,12 +23,12 @@ fn stagger(k: u64) -> f64
     ensures { result ≡ stagger k }
 {
     if k % 3 == 0 {
-        return 0.0;
+        0.0
+    } else if k % 3 == 1 {
+        0.33
+    } else {
+        -0.33
     }
-    if k % 3 == 1 {
-        return 0.33;
-    }
-    -0.33
 }
 
 // How many points a side of squared length d has, its last among them: k, or looked at anew where k is 0.
@@ -36,10 +36,7 @@ fn points_of(k: u64, d: f64, max: f64) -> u64
     requires { 0 < k → k ≡ square_steps d max }
     ensures { result ≡ steps (root d) max }
 {
-    if k > 0 {
-        return k;
-    }
-    root_steps(d, max)
+    if k > 0 { k } else { root_steps(d, max) }
 }
 
 // Where part j of n ends.
@@ -55,11 +52,9 @@ fn put_parts(out: &mut [f64], k: usize, p: P, q: P, n: u64, shift: f64) -> usize
     ensures { (out.new ≡ put out.old k (flat (parts_from p q n shift 1 (n - 1)))) × (result ≡ k + 2 * (n - 1)) }
 {
     let mut to = k;
-    let mut j: u64 = 1;
-    while j < n {
+    for j in 1..n {
         put_point(out, to, part_end(p, q, n, shift, j));
         to += 2;
-        j += 1;
     }
     to
 }

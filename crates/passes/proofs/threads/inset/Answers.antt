@@ -5,7 +5,6 @@ use Rattle.geom.specs.Point.{dist}
 use Rattle.satinrules.specs.Settings.{underlay_inset}
 use Rattle.satinrules.specs.Column.{inset}
 use Rattle.passes.specs.Apart.{len_turned}
-use borrow.Author.Rules.{rules}
 use Rattle.passes.proofs.threads.inset.Goals as goal
 
 pub towards-requires : goal.towards-requires

@@ -1,4 +1,3 @@
-use borrow.Author.Rules.{rules}
 use Rattle.passes.proofs.threads.pair_in.Goals as goal
 
 pub returns : goal.returns

@@ -4,7 +4,6 @@ use borrow.Author.Tests.{eq-eqb, ne_eqb}
 use Rattle.satinrules.specs.declared.Pair.{Pair}
 use Rattle.satinrules.specs.Column.{middle}
 use Rattle.passes.specs.Threads.{point_of}
-use borrow.Author.Rules.{rules}
 use Rattle.passes.proofs.threads.point_of.Goals as goal
 
 pub returns-then-j-eq1 : goal.returns-then-j-eq1
@@ -25,4 +24,4 @@ returns-in-SideB c = rw c.in-SideB.is (ap (λ (q : Pair). q.b) c.inset-in-SideB.
 
 pub returns-else-j-eq1 : goal.returns-else-j-eq1
 unfolding point_of
-returns-else-j-eq1 c = rw (c.in-Alternate.is, ne_eqb _ _ c.if-j-eq1.false) (ap (λ (q : Pair). q.a) c.inset-in-Alternate.ensures)
+returns-else-j-eq1 c = rw (c.in-Alternate.is, ne_eqb _ _ c.if-j-eq1.false) (ap (λ (q : Pair). q.a) c.inset-else-j-eq1.ensures)

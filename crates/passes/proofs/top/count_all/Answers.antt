@@ -2,7 +2,6 @@ use mathlib.Core.Path.{ap, ◌∙◌}
 use native.Mathlib.Omega.{arith}
 use Rattle.seqs.specs.Slices.{capped}
 use Rattle.geom.specs.OutlineLaws.{points_length}
-use borrow.Author.Rules.{rules}
 use Rattle.passes.proofs.top.count_all.Goals as goal
 
 pub returns : goal.returns

@@ -1,5 +1,4 @@
 use Rattle.satinrules.specs.Column.{split_by}
-use borrow.Author.Rules.{rules}
 use Rattle.passes.proofs.top.count_plain.Goals as goal
 
 pub returns-in-Absent : goal.returns-in-Absent

@@ -1,5 +1,4 @@
 use Rattle.satinrules.specs.Column.{styled}
-use borrow.Author.Rules.{rules}
 use Rattle.passes.proofs.top.count_styled.Goals as goal
 
 pub returns-in-Plain : goal.returns-in-Plain

@@ -7,7 +7,6 @@ use Rattle.geom.specs.Point.{len, dist}
 use Rattle.satinrules.specs.Settings.{short_dist}
 use Rattle.satinrules.specs.Column.{crowded}
 use Rattle.passes.specs.TopLaws.{not_crowded}
-use borrow.Author.Rules.{rules}
 use Rattle.passes.proofs.top.crowded.Goals as goal
 
 pub returns-then-d : goal.returns-then-d

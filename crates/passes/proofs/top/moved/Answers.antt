@@ -2,7 +2,6 @@ use lib.Ieee.{of_bits, round}
 use Rattle.numbers.specs.Num.{literal}
 use Rattle.satinrules.specs.Settings.{short_inset}
 use Rattle.passes.specs.Threads.{moved_in}
-use borrow.Author.Rules.{rules}
 use Rattle.passes.proofs.top.moved.Goals as goal
 
 pub returns : goal.returns

@@ -1,5 +1,4 @@
 use Rattle.satinrules.specs.Column.{split_by}
-use borrow.Author.Rules.{rules}
 use Rattle.passes.proofs.top.put_plain.Goals as goal
 
 pub put_all-requires : goal.put_all-requires

@@ -1,5 +1,4 @@
 use Rattle.satinrules.specs.Column.{styled}
-use borrow.Author.Rules.{rules}
 use Rattle.passes.proofs.top.put_styled.Goals as goal
 
 pub put_plain-requires : goal.put_plain-requires

@@ -1,5 +1,4 @@
 use Rattle.satinrules.specs.Column.{widened}
-use borrow.Author.Rules.{rules}
 use Rattle.passes.proofs.top.widened.Goals as goal
 
 pub returns : goal.returns

@@ -3,7 +3,6 @@ use lib.Ieee.{of_bits, neg, round}
 use borrow.Author.Tests.{eq-eqb, ne_eqb}
 use Rattle.numbers.specs.Num.{literal}
 use Rattle.satinrules.specs.Column.{bend}
-use borrow.Author.Rules.{rules}
 use Rattle.styles.proofs.bent.bend.Goals as goal
 
 pub towards-requires : goal.towards-requires

@@ -4,7 +4,6 @@ use mathlib.Core.Bool.{true}
 use lib.Ieee.{le, lt, of_bits, round}
 use Rattle.numbers.specs.Num.{literal}
 use Rattle.styles.specs.SquareLaws.{past, bends_square, straight, bent}
-use borrow.Author.Rules.{rules}
 use Rattle.styles.proofs.bent.bends.Goals as goal
 
 pub returns-then-d : goal.returns-then-d

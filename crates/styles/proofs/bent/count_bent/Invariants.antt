@@ -1,15 +1,10 @@
 -- `count_bent` meets its contract: the points so far and those of the corners from i on come to the answer. Assumes nothing.
-use mathlib.Core.Path.{◌≡◌, sym, ap, ◌∙◌}
+use mathlib.Core.Path.{◌≡◌}
 use Prim.Native.Nat.{◌+◌, ◌-◌, ◌/◌, ◌≤◌}
-use native.Mathlib.Omega.{arith}
 use lib.ListN.{length, drop}
 use Rattle.seqs.specs.Slices.{capped}
-use Rattle.seqs.specs.Capped.{capped_in, capped_small, capped_on, capped_still}
 use Rattle.geom.specs.Outline.{points}
-use Rattle.geom.specs.OutlineLaws.{corner_at}
 use Rattle.satinrules.specs.Column.{sides_from, s_side, s_stitch}
-use Rattle.styles.specs.SidesLaws.{sides_none, sides_end, count_start, count_turn, bent_length}
-use borrow.Author.Rules.{rules}
 use Rattle.styles.proofs.bent.count_bent.Given as goal
 
 abbrev pub invariant-loop-i : goal.invariant-loop-i

@@ -7,7 +7,6 @@ use lib.Ieee.{of_bits, round}
 use Rattle.numbers.specs.Num.{literal}
 use Rattle.styles.specs.SidesLaws.{bent_side, straight_side}
 use Rattle.styles.proofs.Turns.{point_size, three_put}
-use borrow.Author.Rules.{rules}
 use Rattle.styles.proofs.bent.put_side.Goals as goal
 
 pub put_point-requires : goal.put_point-requires

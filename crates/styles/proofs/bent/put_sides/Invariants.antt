@@ -1,19 +1,13 @@
 -- `put_sides` meets its contract: the sides from corner i on are to be written from `to` on. Assumes nothing.
 use mathlib.Core.Path.{◌≡◌}
 use Prim.Native.Nat.{◌+◌, ◌-◌, ◌*◌, ◌≤◌}
-use native.Mathlib.Omega.{arith}
 use mathlib.Core.List.{◌++◌}
 use lib.ListN.{length, take, drop}
-use Rattle.seqs.specs.Front.{Front, front_from, front_at}
-use Rattle.seqs.specs.Wrote.{put_end}
+use Rattle.seqs.specs.Front.{Front}
 use Rattle.geom.specs.Outline.{points}
 use Rattle.geom.specs.Sewing.{flat}
-use Rattle.geom.specs.SewingLaws.{flat_none}
 use Rattle.satinrules.specs.Column.{sides_from, s_side}
 use Rattle.styles.specs.Sides.{later_sides}
-use Rattle.styles.specs.SidesLaws.{sides_end}
-use Rattle.styles.proofs.Turns.{side_room, side_put}
-use borrow.Author.Rules.{rules}
 use Rattle.styles.proofs.bent.put_sides.Given as goal
 
 abbrev pub invariant-loop-i : goal.invariant-loop-i

@@ -11,7 +11,6 @@ use Rattle.geom.specs.OutlineLaws.{points_length}
 use Rattle.geom.specs.SewingLaws.{flat_length, not_fitted, counted, fits, is_fitted}
 use Rattle.satinrules.specs.Column.{s_stitch}
 use Rattle.styles.specs.SidesLaws.{bent_most}
-use borrow.Author.Rules.{rules}
 use Rattle.styles.proofs.bent.s_stitch.Goals as goal
 
 within : (l : List Float) (room : ℕ) → length l / 2 ≤ (room / 2 + 2) / 3 → length (s_stitch (points l)) ≤ room / 2

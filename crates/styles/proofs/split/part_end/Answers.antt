@@ -1,6 +1,5 @@
 use mathlib.Core.Path.{◌∙◌}
 use Rattle.satinrules.specs.Column.{part_end}
-use borrow.Author.Rules.{rules}
 use Rattle.styles.proofs.split.part_end.Goals as goal
 
 pub returns : goal.returns

@@ -10,7 +10,6 @@ use Rattle.satinrules.specs.Column.{stagger, split_side}
 use Rattle.satinrules.specs.Flat.{flat_size, flat_then}
 use Rattle.styles.specs.SidesLaws.{split_points, split_length, split_parts, one_part, parts_length}
 use Rattle.styles.proofs.Turns.{point_size}
-use borrow.Author.Rules.{rules}
 use Rattle.styles.proofs.split.put_side.Goals as goal
 
 pub put_point-requires : goal.put_point-requires

@@ -1,16 +1,11 @@
 -- `put_sides` meets its contract: the sides from corner i on are to be written from `to` on. Assumes nothing.
-use Prim.Native.Nat.{◌+◌, ◌-◌, ◌*◌, ◌≤◌}
-use mathlib.Core.Path.{◌≡◌, ap, ◌∙◌}
+use mathlib.Core.Path.{ap, ◌∙◌}
 use native.Mathlib.Omega.{arith}
-use mathlib.Core.List.{◌++◌}
-use lib.ListN.{length, take, drop}
-use Rattle.seqs.specs.Front.{Front, front_from, front_at}
+use Rattle.seqs.specs.Front.{front_from, front_at}
 use Rattle.seqs.specs.Wrote.{put_end}
-use Rattle.geom.specs.Outline.{points}
 use Rattle.geom.specs.Sewing.{flat}
 use Rattle.geom.specs.SewingLaws.{flat_none}
-use Rattle.polyline.specs.Cuts.{Told}
-use Rattle.satinrules.specs.Column.{sides_from, split_side}
+use Rattle.satinrules.specs.Column.{split_side}
 use Rattle.styles.specs.Sides.{later_sides}
 use Rattle.styles.specs.SidesLaws.{sides_end}
 use Rattle.styles.proofs.Turns.{side_room, side_put}

@@ -5,7 +5,6 @@ use lib.ListN.{length}
 use Rattle.geom.specs.Outline.{points}
 use Rattle.geom.specs.SewingLaws.{not_fitted, counted, fits, is_fitted}
 use Rattle.satinrules.specs.Column.{split_long}
-use borrow.Author.Rules.{rules}
 use Rattle.styles.proofs.split.split_long.Goals as goal
 
 pub returns-then-points-room : goal.returns-then-points-room

@@ -12,6 +12,6 @@ pub returns-then-k-eq1 : goal.returns-then-k-eq1
 unfolding stagger literal round of_bits neg
 returns-then-k-eq1 c = rw (ne_eqb _ _ c.if-k-eq0.false, eq-eqb _ _ c.if-k-eq1.true)
 
-pub returns : goal.returns
+pub returns-else-k-eq1 : goal.returns-else-k-eq1
 unfolding stagger literal round of_bits neg
-returns c = rw (ne_eqb _ _ c.if-k-eq0.false, ne_eqb _ _ c.if-k-eq1.false)
+returns-else-k-eq1 c = rw (ne_eqb _ _ c.if-k-eq0.false, ne_eqb _ _ c.if-k-eq1.false)
