@@ -1,8 +1,8 @@
 -- The next crossing, by computing: a row at y = 5 over four upright edges, two of which share their x. The crossing at 10 is one, and its directions are added.
-use Rattle.std.specs.Prelude.{◌≡◌, refl, Bool, true, false, List, [], ◌∷◌, ℕ, ℤ, pos, negsuc, Float}
+use Rattle.std.specs.Prelude.{◌≡◌, refl, Bool, true, false, List, [], ◌∷◌, ℕ, pos, negsuc, Float}
 use Rattle.std.specs.Float.{inf}
 use Rattle.std.specs.Float.Ieee.{add, sub, mul, lt, le, of_int, round, size, odd, div}
-use Rattle.numbers.specs.Num.{literal, zero64}
+use Rattle.numbers.specs.Num.{literal}
 use Rattle.numbers.specs.Order.{before}
 use Rattle.seqs.specs.Lists.{fold}
 use Rattle.rules.specs.declared.Edge.{Edge}

@@ -1,5 +1,5 @@
 -- The next crossing of a row, of all that the kept sides have, and the row's pieces from one crossing to the next. Definitions only.
-use Rattle.std.specs.Prelude.{ℕ, ◌+◌, ◌≤◌, ◌<◌, ◌≡◌, Bool, true, false, not, cond, List, [], ◌∷◌, ℤ, pos, nat_abs, ◌+ℤ◌, length, Float}
+use Rattle.std.specs.Prelude.{ℕ, ◌+◌, ◌≤◌, ◌≡◌, Bool, true, false, not, cond, List, ℤ, pos, nat_abs, ◌+ℤ◌, length, Float}
 use Rattle.std.specs.Float.{inf}
 use Rattle.std.specs.Float.Ieee.{lt}
 use Rattle.numbers.specs.Num.{zero64}

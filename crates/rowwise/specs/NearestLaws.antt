@@ -1,23 +1,23 @@
 -- The nearest crossing is the next of the row's crossings in their order, those of equal x taken as one. Assumes nothing.
-use Rattle.std.specs.Prelude.{ℕ, suc, ◌+◌, ◌^◌, ◌≤◌, ◌<◌, ◌≡◌, Bool, not, ◌&&◌, List, [], ◌∷◌, ◌++◌, map, ℤ, pos, negsuc, ◌+ℤ◌, length, T, Float}
+use Rattle.std.specs.Prelude.{◌+◌, ◌^◌, ◌≤◌, ◌<◌, ◌≡◌, Bool, not, ◌&&◌, List, [], ◌∷◌, ◌++◌, ℤ, pos, negsuc, ◌+ℤ◌, length, T, Float}
 use Rattle.std.proofs.Common.{arith, ◌∙◌, subst, true≢false, inl, inr}
 use Rattle.std.proofs.Math.Path.{refl, sym, ap}
 use Rattle.std.proofs.Math.Bool.{true, false, cond}
-use Rattle.std.proofs.Math.IntN.{+ℤ_assoc, +ℤ_comm}
-use Rattle.std.specs.Float.{inf, binary64}
+use Rattle.std.proofs.Math.IntN.{+ℤ_assoc}
+use Rattle.std.specs.Float.{inf}
 use Rattle.std.specs.Float.Ieee.{fits, le, lt, is_nan}
 use Rattle.numbers.specs.Num.{◌⊕◌, ◌⊖◌, ◌⊗◌, literal}
 use Rattle.numbers.specs.Order.{before, magnitude}
 use Rattle.numbers.specs.FloatOrder.{le_lt_clash}
 use Rattle.seqs.specs.Lists.{keep_if, sift, fold, All, Sorted}
 use Rattle.seqs.specs.Each.{fold_append}
-use Rattle.seqs.specs.Tests.{either, clash}
+use Rattle.seqs.specs.Tests.{either}
 use Rattle.seqs.specs.All.{all_map, all_sift, sorted_sift}
 use Rattle.seqs.specs.Sift.{sift_pass, sift_all, sift_absorb}
 use Rattle.rules.specs.declared.Edge.{Edge}
 use Rattle.geom.specs.declared.point.P.{P}
 use Rattle.rules.specs.Fill.{dir, edge_of, kept_side}
-use Rattle.rules.proofs.Gathered.{Number, Numbers, Rel, less, more, same, rel, not_self, one_way, through, add, gathered}
+use Rattle.rules.proofs.Gathered.{Number, Numbers, less, more, same, rel, not_self, one_way, through, add, gathered}
 use Rattle.rules.specs.Drawn.{crosses, cross_at, unsorted}
 use Rattle.edges.specs.declared.side.KeptSide.{KeptSide}
 use Rattle.edges.specs.declared.side.KeptSide.TheVariants.{Kept}

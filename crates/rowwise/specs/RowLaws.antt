@@ -1,5 +1,5 @@
 -- A row's pieces from one crossing to the next are those of the row taken alone, and all rows one after the other the fill's. Assumes nothing.
-use Rattle.std.specs.Prelude.{ℕ, ◌+◌, ◌-◌, ◌*◌, ◌≤◌, ◌<◌, ◌≡◌, refl, Bool, true, false, not, ◌&&◌, cond, T, ltb, ℤ, pos, nat_abs, ◌+ℤ◌, take, drop, replicate, Float}
+use Rattle.std.specs.Prelude.{ℕ, ◌+◌, ◌-◌, ◌*◌, ◌≤◌, ◌<◌, ◌≡◌, refl, Bool, true, false, not, ◌&&◌, ltb, ℤ, pos, take, replicate, Float}
 use native.Mathlib.Omega.{arith}
 use Rattle.std.proofs.Math.Path.{sym, ap, subst}
 use Rattle.std.proofs.Common.{◌∙◌, take_at, lt-ltb}
@@ -9,7 +9,7 @@ use Rattle.std.proofs.Math.ListN.{length, length-map}
 use Rattle.std.proofs.lemmas.List.{length-replicate}
 use Rattle.std.specs.Float.{nan, inf, fin, binary64}
 use Rattle.std.specs.Float.Ieee.Fits.{add-fits}
-use Rattle.numbers.specs.Num.{◌⊕◌, ◌⊖◌, ◌⊗◌, zero64}
+use Rattle.numbers.specs.Num.{zero64}
 use Rattle.numbers.specs.Order.{before}
 use Rattle.numbers.specs.Value.{Within}
 use Rattle.seqs.specs.Lists.{keep_if, sift, each, fold, All}
@@ -27,7 +27,7 @@ use Rattle.geom.specs.declared.point.P.{P}
 use Rattle.rules.specs.declared.Settings.{Settings}
 use Rattle.rules.specs.declared.Edge.{Edge}
 use Rattle.rules.specs.declared.Piece.{Piece}
-use Rattle.rules.specs.Fill.{edges, row_numbers, row_at, no_edge, crossings, crossed, spans, piece_of, wide, pieces_at, pieces_of, met, row_list}
+use Rattle.rules.specs.Fill.{edges, row_numbers, row_at, no_edge, crossings, crossed, spans, pieces_at, pieces_of, met, row_list}
 use Rattle.rules.specs.PieceTable.{piece_block, row_counts}
 use Rattle.rules.specs.Accepted.{Checked, checked}
 use Rattle.rules.specs.Alls.{all_mapped}
@@ -38,25 +38,22 @@ use Rattle.rules.proofs.Sections.{entries_pieces}
 use Rattle.rules.proofs.Gathered.{gathered}
 use Rattle.rules.specs.Drawn.{crosses, cross_at, unsorted}
 use Rattle.rules.proofs.Drawn.{Sound, crossings_gathered}
-use Rattle.edges.specs.declared.rows.Rows.{Rows}
 use Rattle.edges.specs.Span.{row_number}
 use Rattle.sweep.specs.declared.piece.Cut.{Cut}
 use Rattle.sweep.specs.declared.piece.Span.{Span}
 use Rattle.sweep.specs.declared.piece.Scan.{Scan}
 use Rattle.sweep.specs.declared.piece.Crossing.{Crossing}
-use Rattle.sweep.specs.Swept.{cuts_of, cut_at, cut_ends, wide_span, passed, span_block, numbers}
+use Rattle.sweep.specs.Swept.{cuts_of, cut_at, cut_ends, wide_span, passed, numbers}
 use Rattle.sweep.specs.SweptLaws.{cuts_next, cuts_none, as_pieces, as_piece, added_pieces, numbers_next, numbers_none}
 use Rattle.sweep.specs.Met.{numbers_met}
 use Rattle.sweep.specs.LaidLaws.{counts_length, wrote_there}
-use Rattle.sections.specs.Mark.{Laid as LaidOut}
 use Rattle.finding.specs.declared.Plan.{Plan}
 use Rattle.finding.specs.Stages.{Passed, alone}
-use Rattle.rowwise.specs.declared.crossing.Ask.{Ask}
 use Rattle.rowwise.specs.declared.piece.Step.{Step}
 use Rattle.rowwise.specs.declared.piece.Step.TheVariants.{Found, End}
 use Rattle.rowwise.specs.Nearest.{none_yet, meet, behind, sides_behind, Inner, Clear, left_after, row_cuts}
 use Rattle.rowwise.specs.NearestLaws.{gathered_all, nearest_none, nearest_next, nearest_fewer}
-use Rattle.rowwise.specs.Rows.{Scanning, Next, Stepped, place, Putting, Laid, plain_floats, plain_wholes, plain_short, Holds}
+use Rattle.rowwise.specs.Rows.{Next, Stepped, place, Putting, Laid, plain_floats, plain_wholes, plain_short, Holds}
 
 -- ---- a scan of a row
 

@@ -21,15 +21,12 @@ pub fn all_rows(
     let rule = t.rule;
     let g = t.g;
     let w = t.rows;
-    let n = w.n;
     let mut i = 0;
-    let mut r = 0;
-    while r < n {
+    for r in 0..w.n {
         let c = cut_at(rule, g, t.upward, w, r);
         let m = put_pieces(corners, ends, g, floats, c, i);
         put_rows(wholes, i, m - i, r);
         i = m;
-        r += 1;
     }
     i
 }

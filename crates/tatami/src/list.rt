@@ -14,27 +14,13 @@ use finding::find::{Found, find};
 use refusal::{DONE, ROOM, WORK};
 use sections::{Fill, mark_all};
 
-// The first n floats.
-fn put_floats(out: &mut [f64], from: &[f64], n: usize)
-    requires { (n ≤ length out.old) × (n ≤ length from.now) }
-    ensures { out.new ≡ take n from.now ++ drop n out.old }
-{
-    let mut i = 0;
-    while i < n {
-        out[i] = from[i];
-        i += 1;
-    }
-}
-
 // The row numbers of n pieces, by the counts of their rows.
 fn put_rows(out: &mut [i64], numbers: &[usize], w: Rows, upward: bool, n: usize)
     requires { (n ≤ length out.old) × (n ≤ length numbers.now) × Spanned w × ((j : ℕ) → j < n → get_or numbers.now j 0 < w.n) }
     ensures { out.new ≡ rows_in w upward n numbers.now ++ drop n out.old }
 {
-    let mut i = 0;
-    while i < n {
-        out[i] = row_number(w, upward, numbers[i]);
-        i += 1;
+    for (i, number) in numbers[..n].iter().enumerate() {
+        out[i] = row_number(w, upward, *number);
     }
 }
 
@@ -43,10 +29,8 @@ fn put_sections(out: &mut [usize], numbers: &[usize], n: usize)
     requires { (n ≤ length out.old) × (3 * n ≤ length numbers.now) }
     ensures { out.new ≡ numbers_in n numbers.now ++ drop n out.old }
 {
-    let mut i = 0;
-    while i < n {
+    for i in 0..n {
         out[i] = numbers[n + 2 * i];
-        i += 1;
     }
 }
 
@@ -55,13 +39,7 @@ fn has_room(n: usize, ys: &[f64], rows: &[i64], sections: &[usize]) -> bool
     requires { n ≤ 10000000 }
     ensures { result ≡ list_fits n (length ys.now) (length rows.now) (length sections.now) }
 {
-    if ys.len() < 3 * n {
-        return false;
-    }
-    if rows.len() < n {
-        return false;
-    }
-    n <= sections.len()
+    3 * n <= ys.len() && n <= rows.len() && n <= sections.len()
 }
 
 // The part behind the edges, listed.
@@ -90,7 +68,7 @@ pub fn list_pieces(
     let f = Fill { rule, settings };
     let w = t.rows;
     mark_all(corners, ends, f, pieces, numbers, n, w.n);
-    put_floats(ys, pieces, 3 * n);
+    ys[..3 * n].copy_from_slice(&pieces[..3 * n]);
     put_rows(rows, numbers, w, t.upward, n);
     put_sections(sections, numbers, n);
     Listed {

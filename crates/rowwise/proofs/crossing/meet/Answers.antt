@@ -1,9 +1,5 @@
-use mathlib.Core.Path.{sym}
-use Prim.Native.Nat.{◌+◌, ◌≤◌}
 use native.Mathlib.Omega.{arith}
-use lib.IntN.{nat_abs}
 use Rattle.rowwise.specs.NearestLaws.{side_meets, side_ended, side_later}
-use borrow.Author.Rules.{rules}
 use Rattle.rowwise.proofs.crossing.meet.Goals as goal
 
 pub returns-in_default : goal.returns-in_default

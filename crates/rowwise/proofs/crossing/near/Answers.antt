@@ -1,8 +1,6 @@
 use mathlib.Core.Path.{◌≡◌, sym, ap, ◌∙◌}
 use mathlib.Core.Bool.{true, false}
-use Prim.Native.Nat.{◌+◌, ◌≤◌}
 use native.Mathlib.Omega.{arith}
-use lib.IntN.{nat_abs}
 use Rattle.numbers.specs.Order.{before}
 use Rattle.seqs.specs.Signed.{back}
 use Rattle.sweep.specs.declared.piece.Crossing.{Crossing}

@@ -1,19 +1,16 @@
 use mathlib.Core.Path.{◌≡◌, sym, ap, ◌∙◌}
-use mathlib.Core.Bool.{true}
 use Prim.Native.Nat.{ℕ, ◌≤◌, ◌+◌, ◌-◌, ◌*◌, ◌/◌}
 use native.Mathlib.Omega.{arith}
-use lib.IntN.{nat_abs}
 use mathlib.Core.List.{List}
 use lib.ListN.{length, take, drop, get_or, length-take, length-drop}
 use lib.Ieee.{Float, of_bits, nan_bits}
 use Rattle.seqs.specs.Lists.{fold}
 use Rattle.seqs.specs.Each.{fold_append}
-use Rattle.geom.specs.Outline.{points, rings, rising}
+use Rattle.geom.specs.Outline.{points}
 use Rattle.geom.specs.OutlineLaws.{rising_turn}
-use Rattle.rules.specs.Fill.{edges}
 use Rattle.edges.specs.Table.{ring_edges}
 use Rattle.edges.specs.SideLaws.{rest, rest_all, rest_next, rest_none}
-use Rattle.rowwise.specs.Nearest.{none_yet, meet}
+use Rattle.rowwise.specs.Nearest.{meet}
 use borrow.Author.Rules.{rules}
 use Rattle.rowwise.proofs.crossing.next_crossing.Goals as goal
 

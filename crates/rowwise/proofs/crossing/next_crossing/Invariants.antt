@@ -1,20 +1,13 @@
-use mathlib.Core.Path.{◌≡◌, sym, ap, ◌∙◌}
+use mathlib.Core.Path.{◌≡◌}
 use mathlib.Core.Bool.{true}
-use Prim.Native.Nat.{ℕ, ◌≤◌, ◌+◌, ◌-◌, ◌*◌, ◌/◌}
-use native.Mathlib.Omega.{arith}
+use Prim.Native.Nat.{◌≤◌, ◌+◌, ◌-◌, ◌*◌, ◌/◌}
 use lib.IntN.{nat_abs}
-use mathlib.Core.List.{List}
-use lib.ListN.{length, take, drop, get_or, length-take, length-drop}
-use lib.Ieee.{Float, of_bits, nan_bits}
+use lib.ListN.{length, drop}
 use Rattle.seqs.specs.Lists.{fold}
-use Rattle.seqs.specs.Each.{fold_append}
-use Rattle.geom.specs.Outline.{points, rings, rising}
-use Rattle.geom.specs.OutlineLaws.{rising_turn}
+use Rattle.geom.specs.Outline.{rings, rising}
 use Rattle.rules.specs.Fill.{edges}
-use Rattle.edges.specs.Table.{ring_edges}
-use Rattle.edges.specs.SideLaws.{rest, rest_all, rest_next, rest_none}
+use Rattle.edges.specs.SideLaws.{rest}
 use Rattle.rowwise.specs.Nearest.{none_yet, meet}
-use borrow.Author.Rules.{rules}
 use Rattle.rowwise.proofs.crossing.next_crossing.Given as goal
 
 abbrev pub invariant-loop-k : goal.invariant-loop-k

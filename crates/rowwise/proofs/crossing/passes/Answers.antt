@@ -5,7 +5,6 @@ use lib.ListN.{length}
 use lib.Ieee.{lt}
 use Rattle.edges.specs.Table.{corner}
 use Rattle.edges.specs.SideLaws.{following_in}
-use borrow.Author.Rules.{rules}
 use Rattle.rowwise.proofs.crossing.passes.Goals as goal
 
 pub corner-b-requires : goal.corner-b-requires

@@ -1,18 +1,14 @@
-use mathlib.Core.Path.{◌≡◌, sym, ap, ◌∙◌}
-use Prim.Native.Nat.{◌≤◌, ◌+◌, ◌-◌}
+use mathlib.Core.Path.{sym, ap, ◌∙◌}
+use Prim.Native.Nat.{◌+◌}
 use native.Mathlib.Omega.{arith}
-use lib.IntN.{nat_abs}
 use lib.ListN.{length, drop}
 use Rattle.seqs.specs.Lists.{fold}
 use Rattle.seqs.specs.Each.{fold_append}
-use Rattle.geom.specs.Outline.{points}
 use Rattle.rules.specs.Fill.{kept_side}
-use Rattle.edges.specs.Table.{corner, following, ring_edges}
+use Rattle.edges.specs.Table.{corner, following}
 use Rattle.edges.specs.SideLaws.{left, left_next_lem, left_none, ring_short, ring_long}
 use Rattle.rowwise.specs.Nearest.{meet}
 use Rattle.rowwise.specs.NearestLaws.{passed_over}
-use borrow.Author.Tests.{not-true}
-use borrow.Author.Rules.{rules}
 use Rattle.rowwise.proofs.crossing.ring_next.Goals as goal
 
 pub returns-then-n-lt6 : goal.returns-then-n-lt6

@@ -1,15 +1,9 @@
-use mathlib.Core.Path.{◌≡◌, refl, ap, sym, ◌∙◌}
-use Prim.Native.Nat.{◌+◌, ◌-◌, ◌≤◌, ◌<◌}
+use mathlib.Core.Path.{refl, ap, ◌∙◌}
 use native.Mathlib.Omega.{arith}
-use lib.ListN.{length}
-use lib.IntN.{nat_abs}
 use Rattle.geom.specs.Outline.{rings}
 use Rattle.rules.specs.Fill.{edges}
 use Rattle.sweep.specs.declared.piece.Scan.{Scan}
-use Rattle.rowwise.specs.Nearest.{sides_behind, left_after}
-use Rattle.rowwise.specs.Rows.{Scanning}
 use Rattle.rowwise.specs.RowLaws.{scan_turn, scan_fewer, scan_none}
-use borrow.Author.Rules.{rules}
 use Rattle.rowwise.proofs.piece.next_piece.Goals as goal
 
 pub loop-s-init : goal.loop-s-init

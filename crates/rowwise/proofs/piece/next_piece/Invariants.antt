@@ -1,15 +1,9 @@
-use mathlib.Core.Path.{◌≡◌, refl, ap, sym, ◌∙◌}
-use Prim.Native.Nat.{◌+◌, ◌-◌, ◌≤◌, ◌<◌}
-use native.Mathlib.Omega.{arith}
-use lib.ListN.{length}
-use lib.IntN.{nat_abs}
+use mathlib.Core.Path.{◌≡◌}
+use Prim.Native.Nat.{◌≤◌}
 use Rattle.geom.specs.Outline.{rings}
 use Rattle.rules.specs.Fill.{edges}
-use Rattle.sweep.specs.declared.piece.Scan.{Scan}
 use Rattle.rowwise.specs.Nearest.{sides_behind, left_after}
 use Rattle.rowwise.specs.Rows.{Scanning}
-use Rattle.rowwise.specs.RowLaws.{scan_turn, scan_fewer, scan_none}
-use borrow.Author.Rules.{rules}
 use Rattle.rowwise.proofs.piece.next_piece.Given as goal
 
 abbrev pub invariant-loop-s : goal.invariant-loop-s

@@ -1,16 +1,10 @@
-use mathlib.Core.Path.{refl}
-use mathlib.Core.Bool.{true}
 use Prim.Native.Nat.{◌+◌, ◌-◌, ◌≤◌}
-use native.Mathlib.Omega.{arith}
-use lib.Ieee.{inf, of_bits, nan_bits}
-use Rattle.seqs.specs.Adding.{Adding, adding_start, adding_at, adding_step, adding_end, added_one}
+use Rattle.seqs.specs.Adding.{Adding}
 use Rattle.geom.specs.Outline.{rings}
 use Rattle.rules.specs.Fill.{edges}
 use Rattle.sweep.specs.Swept.{span_block}
 use Rattle.rowwise.specs.Nearest.{left_after, row_cuts}
 use Rattle.rowwise.specs.Rows.{Scanning, place}
-use Rattle.rowwise.specs.RowLaws.{sides_few, step_end, step_found}
-use borrow.Author.Rules.{rules}
 use Rattle.rowwise.proofs.piece.put_pieces.Given as goal
 
 abbrev pub invariant-loop-p : goal.invariant-loop-p

@@ -1,7 +1,6 @@
-use Prim.Native.Nat.{◌-◌}
 use native.Mathlib.Omega.{arith}
 use Rattle.finding.specs.FindLaws.{outlined, few_edges, spans_rows}
-use Rattle.rowwise.specs.RowLaws.{Rowing, rowing_start, rowing_clear, rowing_step, rowing_end}
+use Rattle.rowwise.specs.RowLaws.{rowing_start, rowing_clear, rowing_step, rowing_end}
 use borrow.Author.Rules.{rules}
 use Rattle.rowwise.proofs.rows.all_rows.Goals as goal
 
@@ -19,9 +18,6 @@ overflow_sub-m c = omega (arith, c.put_pieces-m.ensures.added.count)
 
 pub put_rows-requires : goal.put_rows-requires
 put_rows-requires c = omega (arith, c.put_pieces-m.ensures.few, c.loop-r.invariant.bound, c.loop-r.invariant.le, (spans_rows c.args.corners.now c.args.ends.now c.args.t c.requires).few)
-
-pub overflow_add-r : goal.overflow_add-r
-overflow_add-r c = omega (arith, c.loop-r-test.true, (spans_rows c.args.corners.now c.args.ends.now c.args.t c.requires).few)
 
 pub loop-r-preserved : goal.loop-r-preserved
 loop-r-preserved c = rowing_step c.args.corners.now c.args.ends.now c.args.t c.requires c.loop-r.invariant c.loop-r-test.true c.cut_at-c.ensures c.put_pieces-m.ensures c.put_rows.ensures

@@ -2,9 +2,10 @@
 use mathlib.Core.Path.{refl, sym, ◌∙◌}
 use native.Mathlib.Omega.{arith}
 use Prim.Native.Nat.{◌*◌}
-use lib.ListN.{take}
+use mathlib.Core.Path.{ap}
+use mathlib.Core.List.{◌++◌}
+use lib.ListN.{take, drop}
 use lib.Seq.{length-take-le}
-use borrow.Author.Tests.{not-true, not-false}
 use Rattle.refusal.specs.Refusal.{DONE}
 use Rattle.sewing.specs.Sewing.{numbers_in}
 use Rattle.sewing.specs.LinkedLaws.{numbers_length}
@@ -13,7 +14,6 @@ use Rattle.finding.specs.FindLaws.{spans_rows}
 use Rattle.tatami.specs.EntryLaws.{layout, few_pieces, few_rows, lent_rise, count_is, floats_listed, rows_listed, sections_listed, rows_length, counts_in}
 use Rattle.tatami.specs.RoomLaws.{list_room_lem}
 use Rattle.tatami.specs.Outcomes.{front_is}
-use borrow.Author.Rules.{rules}
 use Rattle.tatami.proofs.list.list_pieces.Goals as goal
 
 pub has_room-requires : goal.has_room-requires
@@ -27,9 +27,6 @@ mark_all-requires c = let a = c.args in (layout a.corners.now a.ends.now a.t a.n
 
 pub overflow_mul-n : goal.overflow_mul-n
 overflow_mul-n c = let a = c.args in omega (arith, few_pieces a.corners.now a.ends.now a.t a.n a.pieces.now a.numbers.now c.requires)
-
-pub put_floats-requires : goal.put_floats-requires
-put_floats-requires c = ((list_room_lem _ _ _ _ (sym c.has_room.ensures ∙ c.if-not-has_room.false)).0, c.requires.floats)
 
 pub put_rows-requires : goal.put_rows-requires
 put_rows-requires c =
@@ -47,7 +44,7 @@ returns c =
     let n = count_is a.corners.now a.ends.now a.t a.n a.pieces.now a.numbers.now c.requires _ m in
     rw (sym c.has_room.ensures ∙ c.if-not-has_room.false) (
       λ i. record { answer = DONE; pieces = n i },
-      front_is (take (3 * a.n) a.pieces.now) _ a.ys.now (3 * a.n) (floats_listed a.corners.now a.ends.now a.t a.n a.pieces.now a.numbers.now c.requires _ m) (length-take-le (3 * a.n) a.pieces.now c.requires.floats) c.put_floats.ensures,
+      front_is (take (3 * a.n) a.pieces.now) _ a.ys.now (3 * a.n) (floats_listed a.corners.now a.ends.now a.t a.n a.pieces.now a.numbers.now c.requires _ m) (length-take-le (3 * a.n) a.pieces.now c.requires.floats) (ap (λ k. k ++ drop (3 * a.n) a.ys.now) c.copy_from_slice.ensures.after),
       front_is (rows_in a.t.rows a.t.upward a.n _) _ a.rows.now a.n (rows_listed a.corners.now a.ends.now a.t a.n a.pieces.now a.numbers.now c.requires _ m) (rows_length a.corners.now a.ends.now a.t a.n a.pieces.now a.numbers.now c.requires _ m) c.put_rows.ensures,
       front_is (numbers_in a.n _) _ a.sections.now a.n (sections_listed a.corners.now a.ends.now a.t a.n a.pieces.now a.numbers.now c.requires _ m) (numbers_length a.n _) c.put_sections.ensures,
     )

@@ -2,7 +2,6 @@
 use mathlib.Core.Path.{◌∙◌}
 use native.Mathlib.Omega.{arith}
 use Rattle.tatami.specs.EntryLaws.{layout, few_pieces, few_rows, lent_rise, begun_is, linkable, sectioned}
-use borrow.Author.Rules.{rules}
 use Rattle.tatami.proofs.sew.sections_of.Goals as goal
 
 pub mark_all-sections-requires : goal.mark_all-sections-requires

@@ -6,7 +6,6 @@ use Rattle.rules.specs.Calls.{sewn_points}
 use Rattle.refusal.specs.Refusal.{DONE}
 use Rattle.tatami.specs.Stages.{sewn_in}
 use Rattle.tatami.specs.RoomLaws.{sewn_count, room_ends, room_points, room_enough, points_are, points_fit}
-use borrow.Author.Rules.{rules}
 use Rattle.tatami.proofs.sew.sew.Goals as goal
 
 pub returns-then-sections-stops : goal.returns-then-sections-stops

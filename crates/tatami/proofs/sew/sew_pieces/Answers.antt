@@ -1,7 +1,6 @@
 -- Sections, then stitches. Assumes nothing.
 use Rattle.finding.specs.FindLaws.{spans_rows}
 use Rattle.tatami.specs.RoomLaws.{sewn_is, field_linked, sewed_of}
-use borrow.Author.Rules.{rules}
 use Rattle.tatami.proofs.sew.sew_pieces.Goals as goal
 
 pub sections_of-sections-requires : goal.sections_of-sections-requires
