@@ -1,18 +1,15 @@
 -- One fill over a table that stands: the edges are its own, and what is laid is what a lone fill would lay. Assumes nothing.
-use Rattle.std.specs.Prelude.{ℕ, ◌*◌, ◌≤◌, ◌<◌, ◌≡◌, refl, Bool, true, cond, not, ◌||◌, List, ltb, Float}
+use Rattle.std.specs.Prelude.{ℕ, ◌*◌, ◌≤◌, ◌<◌, ◌≡◌, refl, Bool, true, cond, not, List, ltb, Float}
 use Rattle.std.proofs.Common.{arith, ap, ◌∙◌, subst}
 use Rattle.std.proofs.Math.Bool.{or-true}
 use Rattle.std.proofs.Math.ListN.{length}
 use borrow.Author.Tests.{lt-ltb, le-ltb}
 use Rattle.refusal.specs.Refusal.{DONE, SETTING, SIZE, WORK, ROOM, unless}
-use Rattle.seqs.specs.Lists.{each}
 use Rattle.seqs.specs.Records.{Added}
 use Rattle.geom.specs.Outline.{rings}
-use Rattle.outlines.specs.declared.rule.FillRule.{FillRule}
 use Rattle.limits.specs.Limits.{most_rows, good_outline, good_numbers, good_turn}
 use Rattle.rules.specs.declared.Settings.{Settings}
-use Rattle.rules.specs.declared.Edge.{Edge}
-use Rattle.rules.specs.Fill.{turned, edges, row_numbers, row_list, good_settings, gate}
+use Rattle.rules.specs.Fill.{turned, edges, row_numbers, good_settings, gate}
 use Rattle.rules.proofs.Counts.{edges_few}
 use Rattle.rules.specs.CallLaws.{room_told}
 use Rattle.rules.proofs.Theorems.{pieces_bounded}

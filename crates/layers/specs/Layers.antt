@@ -2,7 +2,6 @@
 use Rattle.std.specs.Prelude.{ℕ, ◌*◌, Bool, not, ◌||◌, cond, List, ltb, length, Float}
 use Rattle.refusal.specs.Refusal.{DONE, LAYOUT, NUMBER, SETTING, TURN, SIZE, WORK, ROOM, ◌then◌}
 use Rattle.numbers.specs.Num.{zero64}
-use Rattle.geom.specs.declared.point.P.{P}
 use Rattle.geom.specs.Outline.{rings}
 use Rattle.outlines.specs.declared.rule.FillRule.{FillRule}
 use Rattle.limits.specs.Limits.{most_rows, good_outline, good_numbers, good_turn}

@@ -14,7 +14,6 @@ pub mod two;
 
 use crate::table::{Table, prepare};
 use crate::two::fill_both;
-use finding::zero::{zero_floats, zero_wholes};
 use outlines::FillRule;
 use refusal::WORK;
 use tatami::Filled;
@@ -66,12 +65,12 @@ fn clear(
 )
     ensures { Cleared table.old table.new floats.old floats.new floats2.old floats2.new places.old places.new wholes.old wholes.new wholes2.old wholes2.new }
 {
-    zero_floats(table);
-    zero_wholes(places);
-    zero_floats(floats);
-    zero_wholes(wholes);
-    zero_floats(floats2);
-    zero_wholes(wholes2);
+    table.fill(0.0);
+    places.fill(0);
+    floats.fill(0.0);
+    wholes.fill(0);
+    floats2.fill(0.0);
+    wholes2.fill(0);
 }
 
 // Each fill's points, x before y, to the front of its `points`, and where each section ends, in points, to the front of its `stops`.
@@ -107,8 +106,8 @@ pub fn tatami_twice(
                 corners, ends, rule, cosine, sine, first, second, table, e, places, points, stops,
                 floats, wholes, points2, stops2, floats2, wholes2,
             );
-            zero_floats(table);
-            zero_wholes(places);
+            table.fill(0.0);
+            places.fill(0);
             r
         }
     }

@@ -10,7 +10,6 @@ ghost use Rattle.layers.specs.Stages.{Standing};
 
 use finding::Plan;
 use finding::gate::{Way, gate};
-use finding::zero::{zero_floats, zero_wholes};
 use laying::lay;
 use outlines::FillRule;
 use refusal::WORK;
@@ -91,8 +90,8 @@ pub fn fill_layer(
             let r = sew_layer(
                 corners, ends, t, table, e, places, points, stops, floats, wholes,
             );
-            zero_floats(floats);
-            zero_wholes(wholes);
+            floats.fill(0.0);
+            wholes.fill(0);
             r
         }
     }

@@ -1,5 +1,5 @@
 -- Document 01's K1 by both engines, by computing: two edges and two pieces, so the plain engine needs 8 floats and 12 whole numbers where the sweep needs 20 and 20.
-use Rattle.std.specs.Prelude.{◌≡◌, refl, true, false, ℕ, List, [], ◌∷◌, Float, replicate}
+use Rattle.std.specs.Prelude.{◌≡◌, refl, false, ℕ, List, [], ◌∷◌, Float, replicate}
 use Rattle.std.specs.Float.Ieee.{add, sub, mul, div, neg, lt, le, eq, of_int, round, to_signed, to_unsigned, to_bits, size, odd, is_nan}
 use Rattle.numbers.specs.Num.{literal, zero64}
 use Rattle.numbers.specs.Order.{negative, before, smaller, larger, magnitude, finite}

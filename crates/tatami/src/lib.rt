@@ -14,7 +14,6 @@ use crate::list::listing;
 use crate::sew::sewing;
 use finding::Plan;
 use finding::gate::{Way, gate};
-use finding::zero::{zero_floats, zero_wholes};
 use outlines::FillRule;
 use rules::Settings;
 
@@ -63,8 +62,8 @@ pub fn tatami(
                 rows: w,
             };
             let r = sewing(corners, ends, t, points, stops, floats, wholes);
-            zero_floats(floats);
-            zero_wholes(wholes);
+            floats.fill(0.0);
+            wholes.fill(0);
             r
         }
     }
@@ -100,8 +99,8 @@ pub fn row_list(
                 rows: w,
             };
             let r = listing(corners, ends, t, ys, rows, sections, floats, wholes);
-            zero_floats(floats);
-            zero_wholes(wholes);
+            floats.fill(0.0);
+            wholes.fill(0);
             r
         }
     }

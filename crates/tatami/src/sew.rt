@@ -18,22 +18,12 @@ fn field_of(t: Plan, n: usize) -> Field
     requires { Spanned t.rows }
     ensures { result ≡ field_of t n }
 {
-    let g = t.g;
     let w = t.rows;
-    if t.upward {
-        return Field {
-            g,
-            stagger: t.stagger,
-            row: w.hi,
-            down: true,
-            pieces: n,
-        };
-    }
     Field {
-        g,
+        g: t.g,
         stagger: t.stagger,
-        row: w.lo,
-        down: false,
+        row: if t.upward { w.hi } else { w.lo },
+        down: t.upward,
         pieces: n,
     }
 }

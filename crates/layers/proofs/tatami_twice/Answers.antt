@@ -1,4 +1,5 @@
 use mathlib.Core.Path.{◌∙◌}
+use lib.Ieee.{of_bits}
 use lib.ListN.{length}
 use Rattle.layers.specs.Layers.{slices}
 use Rattle.layers.specs.LayerLaws.{prepared_refused, prepared_short, prepared_stands}
@@ -23,10 +24,12 @@ returns-in-Short c =
     rw c.refused-in-Short.ensures (twice_short a.corners.now a.ends.now a.rule a.cosine a.sine a.first a.second (slices a.points.now a.stops.now a.floats.now a.wholes.now) (slices a.points2.now a.stops2.now a.floats2.now a.wholes2.now) a.table.now a.places.now z.table (zeroed_length z.table ∙ c.prepare.ensures.size) z.places (zeroed_length z.places) p z.floats (zeroed_length z.floats) z.wholes (zeroed_length z.wholes) z.floats2 (zeroed_length z.floats2) z.wholes2 (zeroed_length z.wholes2))
 
 pub shape_of-table-in-Stands : goal.shape_of-table-in-Stands
-shape_of-table-in-Stands c = zeroed_length c.zero_floats.ensures ∙ c.prepare.ensures.size
+unfolding of_bits
+shape_of-table-in-Stands c = zeroed_length (record { is = c.fill.ensures.after (search rules) }) ∙ c.prepare.ensures.size
 
 pub returns-in-Stands : goal.returns-in-Stands
+unfolding of_bits
 returns-in-Stands c =
     let a = c.args in
     let p = prepared_stands a.corners.now a.ends.now a.cosine a.sine a.table.now (length a.places.now) c.prepare.ensures c.in-Stands.is in
-    twice_done a.corners.now a.ends.now a.rule a.cosine a.sine a.first a.second (slices a.points.now a.stops.now a.floats.now a.wholes.now) (slices a.points2.now a.stops2.now a.floats2.now a.wholes2.now) a.table.now a.places.now c.zero_floats.ensures (zeroed_length c.zero_floats.ensures ∙ c.prepare.ensures.size) c.zero_wholes.ensures (search rules) p.0 c.fill_both-r.ensures.wholes_after c.fill_both-r.ensures.wholes2_after
+    twice_done a.corners.now a.ends.now a.rule a.cosine a.sine a.first a.second (slices a.points.now a.stops.now a.floats.now a.wholes.now) (slices a.points2.now a.stops2.now a.floats2.now a.wholes2.now) a.table.now a.places.now (record { is = c.fill.ensures.after (search rules) }) (zeroed_length (record { is = c.fill.ensures.after (search rules) }) ∙ c.prepare.ensures.size) (record { is = c.fill-in-Stands.ensures.after (search rules) }) (search rules) p.0 c.fill_both-r.ensures.wholes_after c.fill_both-r.ensures.wholes2_after

@@ -5,7 +5,6 @@ use Rattle.rules.specs.Calls.{sewn_fits}
 use Rattle.tatami.specs.Stages.{tatami_of}
 use Rattle.tatami.specs.RoomLaws.{sewed_by}
 use Rattle.layers.specs.LayerLaws.{own_floats, own_wholes, own_enough, layable, own_count, own_few, own_pieces}
-use borrow.Author.Rules.{rules}
 use Rattle.layers.proofs.one.sew_layer.Goals as goal
 
 pub lay-n-requires : goal.lay-n-requires

@@ -1,10 +1,8 @@
 use mathlib.Core.Path.{refl, sym, ◌∙◌}
 use native.Mathlib.Omega.{arith}
-use borrow.Author.Tests.{not-true, not-false}
 use Rattle.finding.specs.FindLaws.{outline_of}
 use Rattle.layers.specs.Layers.{table_refusal}
 use Rattle.layers.specs.LayerLaws.{table_few, table_added, table_floats, table_wholes, table_stands}
-use borrow.Author.Rules.{rules}
 use Rattle.layers.proofs.table.prepare.Goals as goal
 
 pub returns-then-not-good_outline : goal.returns-then-not-good_outline

@@ -1,6 +1,5 @@
 use mathlib.Core.Path.{refl}
 use lib.Ieee.{of_bits}
-use borrow.Author.Rules.{rules}
 use Rattle.layers.proofs.table.turn_of.Goals as goal
 
 pub returns : goal.returns

@@ -1,6 +1,5 @@
 use native.Mathlib.Omega.{arith}
 use Rattle.layers.specs.LayerLaws.{standing_for}
-use borrow.Author.Rules.{rules}
 use Rattle.layers.proofs.two.fill_both.Goals as goal
 
 pub fill_layer-a-requires : goal.fill_layer-a-requires
