@@ -1,5 +1,5 @@
 -- A row's pieces from one crossing to the next are those of the row taken alone, and all rows one after the other the fill's. Assumes nothing.
-use Rattle.std.specs.Prelude.{ℕ, ◌+◌, ◌-◌, ◌*◌, ◌≤◌, ◌<◌, ◌≡◌, refl, Bool, true, false, not, ◌&&◌, ltb, ℤ, pos, take, replicate, Float}
+use Rattle.std.specs.Prelude.{ℕ, ◌+◌, ◌-◌, ◌*◌, ◌≤◌, ◌<◌, ◌≡◌, refl, Bool, true, false, not, ◌&&◌, ltb, ℤ, pos, take, replicate, Float, Option, Some, None}
 use native.Mathlib.Omega.{arith}
 use Rattle.std.proofs.Math.Path.{sym, ap, subst}
 use Rattle.std.proofs.Common.{◌∙◌, take_at, lt-ltb}
@@ -49,8 +49,6 @@ use Rattle.sweep.specs.Met.{numbers_met}
 use Rattle.sweep.specs.LaidLaws.{counts_length, wrote_there}
 use Rattle.finding.specs.declared.Plan.{Plan}
 use Rattle.finding.specs.Stages.{Passed, alone}
-use Rattle.rowwise.specs.declared.piece.Step.{Step}
-use Rattle.rowwise.specs.declared.piece.Step.TheVariants.{Found, End}
 use Rattle.rowwise.specs.Nearest.{none_yet, meet, behind, sides_behind, Inner, Clear, left_after, row_cuts}
 use Rattle.rowwise.specs.NearestLaws.{gathered_all, nearest_none, nearest_next, nearest_fewer}
 use Rattle.rowwise.specs.Rows.{Next, Stepped, place, Putting, Laid, plain_floats, plain_wholes, plain_short, Holds}
@@ -80,10 +78,10 @@ module _ (c : Cut) (es : List Edge) (clear : Clear c.y es) (s : Scan) (last : Fl
 
 -- what a step says, once it is known which
 module _ (c : Cut) (es : List Edge) (s : Scan) (after : Float) where
-  pub step_end : {r : Step} → r ≡ End → Stepped c es s after r → left_after c es s after ≡ []
+  pub step_end : {r : Option (Span × Scan × Float)} → r ≡ None → Stepped c es s after r → left_after c es s after ≡ []
   step_end e f = rw e at f
 
-  pub step_found : {r : Step} {p : Span} {t : Scan} {x : Float} → r ≡ Found p t x → Stepped c es s after r → Next c es s after p t x
+  pub step_found : {r : Option (Span × Scan × Float)} {p : Span} {t : Scan} {x : Float} → r ≡ Some (p, t, x) → Stepped c es s after r → Next c es s after p t x
   step_found e f = rw e at f
 
 -- ---- a row's pieces

@@ -1,5 +1,5 @@
 -- What a scan of a row, a row and all rows leave: piece i as a block of three floats at 3·i, its row's count at i. Definitions only.
-use Rattle.std.specs.Prelude.{ℕ, ◌+◌, ◌*◌, ◌≤◌, ◌≡◌, Bool, true, ◌||◌, List, [], ◌∷◌, ltb, nat_abs, length, Float}
+use Rattle.std.specs.Prelude.{ℕ, ◌+◌, ◌*◌, ◌≤◌, ◌≡◌, Bool, true, ◌||◌, List, [], ◌∷◌, ltb, nat_abs, length, Float, Option, Some, None}
 use Rattle.seqs.specs.Lists.{each}
 use Rattle.seqs.specs.Slices.{Wrote}
 use Rattle.seqs.specs.Records.{Added}
@@ -15,8 +15,6 @@ use Rattle.finding.specs.declared.Plan.{Plan}
 use Rattle.finding.specs.Stages.{alone}
 use Rattle.rules.specs.Fill.{row_list}
 use Rattle.geom.specs.Outline.{rings}
-use Rattle.rowwise.specs.declared.piece.Step.{Step}
-use Rattle.rowwise.specs.declared.piece.Step.TheVariants.{Found, End}
 use Rattle.rowwise.specs.declared.find.Found.{Found as Finding}
 use Rattle.rowwise.specs.declared.find.Found.TheVariants.{Short, Held}
 use Rattle.rowwise.specs.Nearest.{sides_behind, left_after}
@@ -34,9 +32,9 @@ pub record Next (c : Cut) (es : List Edge) (s : Scan) (after : Float) (p : Span)
   pub scans : Scanning c es t x
 
 -- what a step of the scan found
-abbrev pub Stepped : Cut → List Edge → Scan → Float → Step → Type 0
-Stepped c es s after (Found p t x) = Next c es s after p t x
-Stepped c es s after End = left_after c es s after ≡ []
+abbrev pub Stepped : Cut → List Edge → Scan → Float → Option (Span × Scan × Float) → Type 0
+Stepped c es s after (Some (p, t, x)) = Next c es s after p t x
+Stepped c es s after None = left_after c es s after ≡ []
 
 -- ---- pieces in the lent slices
 

@@ -10,14 +10,7 @@ use crate::crossing::{Ask, next_crossing};
 use rules::Settings;
 use sweep::piece::{Cut, Scan, Span, closes, cut_ends, pass, put_piece};
 
-// A piece, and where the scan stands then: behind the crossing at the last number.
-#[derive(Clone, Copy)]
-pub enum Step {
-    Found(Span, Scan, f64),
-    End,
-}
-
-// The next kept piece of a row, from behind the crossing `after` on.
+// The next kept piece of a row, from behind the crossing `after` on; where the scan stands then, and the crossing that it stands behind.
 pub fn next_piece(
     corners: &[f64],
     ends: &[usize],
@@ -25,7 +18,7 @@ pub fn next_piece(
     c: Cut,
     from: Scan,
     after: f64,
-) -> Step
+) -> Option<(Span, Scan, f64)>
     requires { Outline corners.now ends.now × Clear c.y (edges g (rings corners.now ends.now)) × Scanning c (edges g (rings corners.now ends.now)) from after }
     ensures { Stepped c (edges g (rings corners.now ends.now)) from after result }
 {
@@ -39,12 +32,12 @@ pub fn next_piece(
         };
         let x = next_crossing(corners, ends, g, q);
         if x.next == s.at {
-            return Step::End;
+            return None;
         }
         let t = pass(c, s, x);
         let p = cut_ends(c, t.start, x.x);
         if closes(c, s, t, p) {
-            return Step::Found(p, t, x.x);
+            return Some((p, t, x.x));
         }
         s = t;
         last = x.x;
@@ -71,14 +64,11 @@ pub fn put_pieces(
     };
     let mut last = f64::from_bits(18442240474082181120);
     let mut n = i;
-    loop {
-        let r = next_piece(corners, ends, g, c, s, last);
-        let Step::Found(p, t, x) = r else {
-            return n;
-        };
+    while let Some((p, t, x)) = next_piece(corners, ends, g, c, s, last) {
         put_piece(floats, 3 * n, y, p);
         n += 1;
         s = t;
         last = x;
     }
+    n
 }
