@@ -1,5 +1,5 @@
 -- The marks by place, of a row and of all rows: what the code works out, said of the slices. Definitions only.
-use Rattle.std.specs.Prelude.{ℕ, zero, suc, ◌+◌, ◌-◌, ◌*◌, ◌≤◌, ◌<◌, ◌≡◌, Bool, cond, ◌&&◌, List, [], ◌∷◌, ◌++◌, map, eqb, pos, length, get_or, take, drop, Float}
+use Rattle.std.specs.Prelude.{ℕ, zero, suc, ◌+◌, ◌-◌, ◌*◌, ◌≤◌, ◌<◌, ◌≡◌, Bool, cond, ◌&&◌, List, [], ◌∷◌, ◌++◌, map, eqb, pos, length, get_or, take, drop, Float, Option, Some, None}
 use Rattle.std.specs.Float.{nan}
 use Rattle.seqs.specs.Lists.{upto, sift, each, take_while}
 use Rattle.geom.specs.declared.point.P.{P}
@@ -9,8 +9,6 @@ use Rattle.rules.specs.declared.Piece.{Piece}
 use Rattle.rules.specs.declared.Entry.{Entry}
 use Rattle.rules.specs.Fill.{overlap, connects, entries}
 use Rattle.rules.specs.PieceTable.{piece_block, row_counts}
-use Rattle.sections.specs.declared.Found.{Found}
-use Rattle.sections.specs.declared.Found.TheVariants.{At, Nothing}
 use Rattle.sections.specs.declared.Mark.{Mark}
 use Rattle.sections.specs.declared.Row.{Row}
 
@@ -35,10 +33,10 @@ under l o j = overlap o (piece_in l j)
 unfoldable pub count_of : (ℕ → Bool) → ℕ → ℕ → ℕ
 count_of p i n = length (hits p i n)
 
-abbrev pub only_at : List ℕ → Found
-only_at [] = Nothing
-only_at (a ∷ []) = At a
-only_at (a ∷ b ∷ l) = Nothing
+abbrev pub only_at : List ℕ → Option ℕ
+only_at [] = None
+only_at (a ∷ []) = Some a
+only_at (a ∷ b ∷ l) = None
 
 -- what the slices have room for
 pub record Ranges (s : Row) (l : List Float) (w : List ℕ) : Type 0 where
@@ -53,22 +51,22 @@ abbrev pub Low : ℕ → ℕ → ℕ → List ℕ → ℕ → Type 0
 Low n b r w most = (t : ℕ) → b ≤ t → t < r → get_or w (n + 2 * t + 1) 0 ≤ most
 
 -- a place from b on, before r
-abbrev pub Within : Found → ℕ → ℕ → Type 0
-Within (At t) b r = (b ≤ t) × (t < r)
-Within Nothing b r = Unit {0}
+abbrev pub Within : Option ℕ → ℕ → ℕ → Type 0
+Within (Some t) b r = (b ≤ t) × (t < r)
+Within None b r = Unit {0}
 
 module _ (rings : List (List P)) (rule : FillRule) (g : Settings) (l : List Float) (w : List ℕ) (s : Row) where
   -- of the one open place that the piece at j overlaps: that place, where no other piece of this row overlaps it and the link is inside
-  abbrev pub joined_at : ℕ → Found → Found
-  joined_at j Nothing = Nothing
-  joined_at j (At t) = cond (eqb (count_of (under l (piece_in l t)) s.r0 s.r1) 1 && connects rings rule g (entry_in l w s.n t) (piece_in l j)) (At t) Nothing
+  abbrev pub joined_at : ℕ → Option ℕ → Option ℕ
+  joined_at j None = None
+  joined_at j (Some t) = cond (eqb (count_of (under l (piece_in l t)) s.r0 s.r1) 1 && connects rings rule g (entry_in l w s.n t) (piece_in l j)) (Some t) None
 
-  unfoldable pub joins_at : ℕ → Found
+  unfoldable pub joins_at : ℕ → Option ℕ
   joins_at j = joined_at j (only_at (hits (over l (piece_in l j)) s.b0 s.r0))
 
-  abbrev pub mark_by : ℕ → Found → Mark
-  mark_by new Nothing = record { section = new; nth = 0 }
-  mark_by new (At t) = record { section = get_or w (s.n + 2 * t) 0; nth = get_or w (s.n + 2 * t + 1) 0 + 1 }
+  abbrev pub mark_by : ℕ → Option ℕ → Mark
+  mark_by new None = record { section = new; nth = 0 }
+  mark_by new (Some t) = record { section = get_or w (s.n + 2 * t) 0; nth = get_or w (s.n + 2 * t + 1) 0 + 1 }
 
   -- the mark of the piece at j, where a new section gets the number `new`
   unfoldable pub mark_at : ℕ → ℕ → Mark

@@ -1,11 +1,11 @@
 -- The marks by place are those of the row's entries. Assumes nothing.
 use Prim.Native.Nat.{ℕ, zero, suc, ◌+◌, ◌-◌, ◌*◌}
 use native.Mathlib.Omega.{arith}
-use Rattle.std.specs.Prelude.{◌≡◌, Bool, true, false, cond, ◌&&◌, eqb, Float}
+use Rattle.std.specs.Prelude.{◌≡◌, Bool, true, false, cond, ◌&&◌, eqb, Float, Option, Some, None}
 use Rattle.std.proofs.Math.Path.{refl, ap}
 use Rattle.std.proofs.Common.{◌∙◌, ne_eqb}
 use mathlib.Core.List.{List, [], ◌∷◌, ◌++◌, map}
-use Rattle.std.proofs.Math.Option.{Option, none, some}
+use Rattle.std.proofs.Math.Option.{Option as Maybe, none, some}
 use Rattle.std.proofs.Math.ListN.{length, get_or, length-map}
 use Rattle.seqs.specs.Lists.{upto, sift}
 use Rattle.seqs.specs.Sift.{sift_map}
@@ -15,8 +15,6 @@ use Rattle.rules.specs.declared.Settings.{Settings}
 use Rattle.rules.specs.declared.Piece.{Piece}
 use Rattle.rules.specs.declared.Entry.{Entry}
 use Rattle.rules.specs.Fill.{overlap, connects, only, joined, joins, entry, after, row_entries, begun}
-use Rattle.sections.specs.declared.Found.{Found}
-use Rattle.sections.specs.declared.Found.TheVariants.{At, Nothing}
 use Rattle.sections.specs.declared.Row.{Row}
 use Rattle.sections.specs.Mark.{piece_in, entry_in, hits, over, under, count_of, only_at, joined_at, joins_at, mark_by, mark_at, after_at, flat_mark, row_marks, row_new, flat_marks}
 
@@ -28,11 +26,11 @@ module _ (rings : List (List P)) (rule : FillRule) (g : Settings) (l : List Floa
   abbrev pub row_in : List Piece
   row_in = map (piece_in l) (upto s.r0 (s.r1 - s.r0))
 
-  abbrev option_of : Found → Option Entry
-  option_of Nothing = none
-  option_of (At t) = some (entry_in l w s.n t)
+  abbrev option_of : Option ℕ → Maybe Entry
+  option_of None = none
+  option_of (Some t) = some (entry_in l w s.n t)
 
-  option_cond : (b : Bool) (t : ℕ) → cond b (some (entry_in l w s.n t)) none ≡ option_of (cond b (At t) Nothing)
+  option_cond : (b : Bool) (t : ℕ) → cond b (some (entry_in l w s.n t)) none ≡ option_of (cond b (Some t) None)
   option_cond true t = refl
   option_cond false t = refl
 
@@ -53,11 +51,11 @@ module _ (rings : List (List P)) (rule : FillRule) (g : Settings) (l : List Floa
       ∙ joined_is j (hits (over l (piece_in l j)) s.b0 s.r0)
 
   -- what a piece joins says its mark, and the number of the next new section
-  step : (f : Found) (p : Piece) (new j left : ℕ) (ps : List Piece) → ((n : ℕ) → flat_marks (row_entries rings rule g opens_in row_in n ps) ≡ row_marks rings rule g l w s n (j + 1) left)
+  step : (f : Option ℕ) (p : Piece) (new j left : ℕ) (ps : List Piece) → ((n : ℕ) → flat_marks (row_entries rings rule g opens_in row_in n ps) ≡ row_marks rings rule g l w s n (j + 1) left)
       → flat_marks (entry p new (option_of f) ∷ row_entries rings rule g opens_in row_in (after new (option_of f)) ps)
       ≡ flat_mark (mark_by rings rule g l w s new f) ++ row_marks rings rule g l w s (after_at new (mark_by rings rule g l w s new f)) (j + 1) left
-  step Nothing p new j left ps rest = ap (λ (r : List ℕ). new ∷ 0 ∷ r) (rest (new + 1))
-  step (At t) p new j left ps rest =
+  step None p new j left ps rest = ap (λ (r : List ℕ). new ∷ 0 ∷ r) (rest (new + 1))
+  step (Some t) p new j left ps rest =
       let n = get_or w (s.n + 2 * t + 1) 0 in
       rw (ne_eqb (n + 1) 0 (λ e. omega arith)) (ap (λ (r : List ℕ). get_or w (s.n + 2 * t) 0 ∷ (n + 1) ∷ r) (rest new))
 
@@ -70,12 +68,12 @@ module _ (rings : List (List P)) (rule : FillRule) (g : Settings) (l : List Floa
       ∙ step (joins_at rings rule g l w s j) (piece_in l j) new j left ps (λ n. row_marks_lem n (j + 1) left)
 
   -- how many sections a row begins
-  begins : (f : Found) (p : Piece) (new j left : ℕ) (ps : List Piece) → ((n : ℕ) → n + begun (row_entries rings rule g opens_in row_in n ps) ≡ row_new rings rule g l w s n (j + 1) left)
+  begins : (f : Option ℕ) (p : Piece) (new j left : ℕ) (ps : List Piece) → ((n : ℕ) → n + begun (row_entries rings rule g opens_in row_in n ps) ≡ row_new rings rule g l w s n (j + 1) left)
       → new + begun (entry p new (option_of f) ∷ row_entries rings rule g opens_in row_in (after new (option_of f)) ps)
       ≡ row_new rings rule g l w s (after_at new (mark_by rings rule g l w s new f)) (j + 1) left
   unfolding begun
-  begins Nothing p new j left ps rest = (omega arith) ∙ rest (new + 1)
-  begins (At t) p new j left ps rest =
+  begins None p new j left ps rest = (omega arith) ∙ rest (new + 1)
+  begins (Some t) p new j left ps rest =
       let n = get_or w (s.n + 2 * t + 1) 0 in
       rw (ne_eqb (n + 1) 0 (λ e. omega arith)) (rest new)
 

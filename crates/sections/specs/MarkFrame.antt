@@ -1,5 +1,5 @@
 -- A row's marks look only at the marks of the row before, which stay while the row's own are written. Assumes nothing.
-use Rattle.std.specs.Prelude.{ℕ, zero, suc, ◌+◌, ◌-◌, ◌*◌, ◌≤◌, ◌<◌, ◌≡◌, refl, Bool, true, false, cond, ◌&&◌, List, [], ◌∷◌, ◌++◌, eqb, take, get_or, Float}
+use Rattle.std.specs.Prelude.{ℕ, zero, suc, ◌+◌, ◌-◌, ◌*◌, ◌≤◌, ◌<◌, ◌≡◌, refl, Bool, true, false, cond, ◌&&◌, List, [], ◌∷◌, ◌++◌, eqb, take, get_or, Float, Some, None}
 use Rattle.std.proofs.Common.{arith, ap, ◌∙◌}
 use Rattle.seqs.specs.Lists.{upto, All}
 use Rattle.seqs.specs.All.{all_sift}
@@ -9,7 +9,6 @@ use Rattle.outlines.specs.declared.rule.FillRule.{FillRule}
 use Rattle.rules.specs.declared.Settings.{Settings}
 use Rattle.rules.specs.declared.Entry.{Entry}
 use Rattle.rules.specs.Fill.{connects}
-use Rattle.sections.specs.declared.Found.TheVariants.{At, Nothing}
 use Rattle.sections.specs.declared.Row.{Row}
 use Rattle.sections.specs.Mark.{piece_in, entry_in, hits, over, under, count_of, only_at, joined_at, joins_at, mark_by, mark_at, after_at, flat_mark, row_marks, row_new, Low}
 
@@ -32,11 +31,11 @@ module _ (rings : List (List P)) (rule : FillRule) (g : Settings) (l : List Floa
   mark_by_lem new j [] a = refl
   mark_by_lem new j (t ∷ []) a =
       let e = mark_on t a.0 in
-      ap (λ (o : Entry). mark_by rings rule g l w s new (cond (eqb (count_of (under l (piece_in l t)) s.r0 s.r1) 1 && connects rings rule g o (piece_in l j)) (At t) Nothing)) (entry_on t a.0)
+      ap (λ (o : Entry). mark_by rings rule g l w s new (cond (eqb (count_of (under l (piece_in l t)) s.r0 s.r1) 1 && connects rings rule g o (piece_in l j)) (Some t) None)) (entry_on t a.0)
       ∙ same (eqb (count_of (under l (piece_in l t)) s.r0 s.r1) 1 && connects rings rule g (entry_in l v s.n t) (piece_in l j)) e.0 e.1
     where
       same : (b : Bool) → get_or w (s.n + 2 * t) 0 ≡ get_or v (s.n + 2 * t) 0 → get_or w (s.n + 2 * t + 1) 0 ≡ get_or v (s.n + 2 * t + 1) 0
-          → mark_by rings rule g l w s new (cond b (At t) Nothing) ≡ mark_by rings rule g l v s new (cond b (At t) Nothing)
+          → mark_by rings rule g l w s new (cond b (Some t) None) ≡ mark_by rings rule g l v s new (cond b (Some t) None)
       same true p q = rw (p, q)
       same false p q = refl
   mark_by_lem new j (t ∷ u ∷ xs) a = refl

@@ -1,7 +1,7 @@
 -- In rows that rise the pieces that overlap one piece stand side by side, so that neighbours decide. Assumes nothing.
 use Prim.Native.Nat.{ℕ, zero, suc, ◌+◌, ◌-◌, ◌≤◌, ◌<◌}
 use native.Mathlib.Omega.{arith}
-use Rattle.std.specs.Prelude.{◌≡◌, Bool, true, not, ◌&&◌, T, ltb, eqb, length, get_or, Float}
+use Rattle.std.specs.Prelude.{◌≡◌, Bool, true, not, ◌&&◌, T, ltb, eqb, length, get_or, Float, Option, Some, None}
 use Rattle.std.proofs.Math.Path.{refl, sym, ap}
 use Rattle.std.proofs.Common.{◌∙◌, subst, true≢false, ne_eqb, lt-ltb, ltb-true}
 use Rattle.std.proofs.Math.Bool.{false}
@@ -25,8 +25,6 @@ use Rattle.rules.specs.declared.Piece.{Piece}
 use Rattle.rules.specs.Fill.{overlap}
 use Rattle.rules.specs.Rise.{Onward}
 use Rattle.sections.specs.declared.Row.{Row}
-use Rattle.sections.specs.declared.Found.{Found}
-use Rattle.sections.specs.declared.Found.TheVariants.{At, Nothing}
 use Rattle.sections.specs.Mark.{piece_in, hits, over, under, count_of, only_at, joined_at, joins_at}
 use Rattle.sections.specs.MarkLaws.{hits_next, count_kept, count_passed}
 use Rattle.sections.specs.Rises.{xa_at, xb_at, Rising}
@@ -113,7 +111,7 @@ module _ (l : List Float) (b r : ℕ) (up : Rising l b r) (p : Piece) (t : ℕ) 
   unfolding overlap
   from_t = upto_jump near r b t low high (λ u a c. neither (lt (xa_at l u) p.xb) (lt p.xa (xb_at l u)) (before u a c))
 
-  pub only_none : r ≤ t → Nothing ≡ only_at (hits near b r)
+  pub only_none : r ≤ t → None ≡ only_at (hits near b r)
   only_none h = sym (ap only_at (from_t ∙ hits_empty near t r (λ u a c. absurd (omega arith))))
 
   -- from a place on whose piece starts right of p
@@ -132,7 +130,7 @@ module _ (l : List Float) (b r : ℕ) (up : Rising l b r) (p : Piece) (t : ℕ) 
               go (suc k) q = right_after l b r up p.xb v u a (omega arith) f e
 
   module _ (here : t < r) (past : lt p.xa (xb_at l t) ≡ true) where
-    pub only_right : over l p t ≡ false → Nothing ≡ only_at (hits near b r)
+    pub only_right : over l p t ≡ false → None ≡ only_at (hits near b r)
     unfolding overlap
     only_right e = sym (ap only_at (from_t ∙ after_t t low here (first (lt (xa_at l t) p.xb) (lt p.xa (xb_at l t)) e past)))
 
@@ -140,13 +138,13 @@ module _ (l : List Float) (b r : ℕ) (up : Rising l b r) (p : Piece) (t : ℕ) 
       here_t : hits near t r ≡ t ∷ hits near (t + 1) r
       here_t = rw hit at (hits_next near t r here)
 
-      pub only_two : t + 1 < r → over l p (t + 1) ≡ true → Nothing ≡ only_at (hits near b r)
+      pub only_two : t + 1 < r → over l p (t + 1) ≡ true → None ≡ only_at (hits near b r)
       only_two h e = sym (ap only_at (from_t ∙ here_t ∙ ap (λ m. t ∷ m) (rw e at (hits_next near (t + 1) r h))))
 
-      pub only_last : r ≤ t + 1 → At t ≡ only_at (hits near b r)
+      pub only_last : r ≤ t + 1 → Some t ≡ only_at (hits near b r)
       only_last h = sym (ap only_at (from_t ∙ here_t ∙ ap (λ m. t ∷ m) (hits_empty near (t + 1) r (λ u a c. absurd (omega arith)))))
 
-      pub only_one : t + 1 < r → over l p (t + 1) ≡ false → At t ≡ only_at (hits near b r)
+      pub only_one : t + 1 < r → over l p (t + 1) ≡ false → Some t ≡ only_at (hits near b r)
       unfolding overlap
       only_one h e =
           let reaches = past_after l b r up p.xa t (t + 1) low (omega arith) h past in
@@ -235,28 +233,28 @@ module _ (l : List Float) (from to : ℕ) where
 
 -- ---- what j joins, by the only place that it overlaps
 
-abbrev place : Found → ℕ
-place (At t) = t
-place Nothing = 0
+abbrev place : Option ℕ → ℕ
+place (Some t) = t
+place None = 0
 
-abbrev is_at : Found → Bool
-is_at (At t) = true
-is_at Nothing = false
+abbrev is_at : Option ℕ → Bool
+is_at (Some t) = true
+is_at None = false
 
 -- the only place that passes does pass
-pub only_at_lem : (p : ℕ → Bool) (i n t : ℕ) → At t ≡ only_at (hits p i n) → p t ≡ true
+pub only_at_lem : (p : ℕ → Bool) (i n t : ℕ) → Some t ≡ only_at (hits p i n) → p t ≡ true
 only_at_lem p i n t e = go (hits p i n) (sift_pass p (upto i (n - i))) e
   where
-    go : (xs : List ℕ) → All (λ a. p a ≡ true) xs → At t ≡ only_at xs → p t ≡ true
+    go : (xs : List ℕ) → All (λ a. p a ≡ true) xs → Some t ≡ only_at xs → p t ≡ true
     go [] h q = absurd (true≢false (ap is_at q))
     go (a ∷ []) h q = ap p (ap place q) ∙ h.0
     go (a ∷ b ∷ xs) h q = absurd (true≢false (ap is_at q))
 
 module _ (rings : List (List P)) (rule : FillRule) (g : Settings) (l : List Float) (w : List ℕ) (s : Row) (j : ℕ) where
-  pub joins_nothing : Nothing ≡ only_at (hits (over l (piece_in l j)) s.b0 s.r0) → Nothing ≡ joins_at rings rule g l w s j
+  pub joins_nothing : None ≡ only_at (hits (over l (piece_in l j)) s.b0 s.r0) → None ≡ joins_at rings rule g l w s j
   unfolding joins_at
   joins_nothing e = ap (joined_at rings rule g l w s j) e
 
-  pub joins_at_lem : {t : ℕ} → At t ≡ only_at (hits (over l (piece_in l j)) s.b0 s.r0) → joined_at rings rule g l w s j (At t) ≡ joins_at rings rule g l w s j
+  pub joins_at_lem : {t : ℕ} → Some t ≡ only_at (hits (over l (piece_in l j)) s.b0 s.r0) → joined_at rings rule g l w s j (Some t) ≡ joins_at rings rule g l w s j
   unfolding joins_at
   joins_at_lem e = ap (joined_at rings rule g l w s j) e

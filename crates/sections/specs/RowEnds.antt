@@ -1,9 +1,10 @@
 -- Where a row ends, the rows one after the other, and what stands in a slice from some place on. Assumes nothing.
-use Rattle.std.specs.Prelude.{ℕ, ◌+◌, ◌-◌, ◌≤◌, ◌<◌, ◌≡◌, ◌≢◌, List, [], ◌∷◌, map, eqb, length, get_or, take, drop, Float}
+use Rattle.std.specs.Prelude.{Bool, true, false, cond, ℕ, ◌+◌, ◌-◌, ◌≤◌, ◌<◌, ◌≡◌, ◌≢◌, refl, List, [], ◌∷◌, map, eqb, length, get_or, take, drop, Float}
+use Rattle.std.specs.List.{prefix_len}
 use Rattle.std.proofs.Common.{arith, sym, ap, ◌∙◌, get_or-drop, drop-drop}
 use borrow.Author.Tests.{eq-eqb, ne_eqb}
 use Rattle.seqs.specs.Lists.{upto, take_while}
-use Rattle.seqs.specs.Reads.{part_next, part_none, fuel_more, fuel_none}
+use Rattle.seqs.specs.Reads.{part_next, part_none, drop_take, fuel_more, fuel_none}
 use Rattle.sections.specs.Mark.{piece_in, row_end, rows_in}
 
 module _ (w : List ℕ) (n i r : ℕ) (room : n ≤ length w) where
@@ -18,6 +19,21 @@ module _ (w : List ℕ) (n i r : ℕ) (room : n ≤ length w) where
   pub row_done : n ≤ i → row_end w n i r ≡ i
   unfolding row_end
   row_done h = rw (part_none w n i h room) (omega arith)
+
+while_length : {A : Type 0} (p : A → Bool) (xs : List A) → length (take_while p xs) ≡ prefix_len p xs
+while_length p [] = refl
+while_length p (a ∷ xs) = go (p a) (while_length p xs)
+  where
+    go : (b : Bool) → length (take_while p xs) ≡ prefix_len p xs → length (cond b (a ∷ take_while p xs) []) ≡ cond b (1 + prefix_len p xs) 0
+    go true e = omega arith
+    go false e = refl
+
+-- by the part of the slice that the code looks at
+pub row_end_part : (w : List ℕ) (n i r : ℕ) → i ≤ n → row_end w n i r ≡ i + prefix_len (λ a. eqb a r) (take (n - i) (drop i w))
+unfolding row_end
+row_end_part w n i r h =
+    let e : i + (n - i) ≡ n = omega arith in
+    ap (λ l. i + l) (while_length (λ a. eqb a r) (drop i (take n w))) ∙ ap (λ l. i + prefix_len (λ a. eqb a r) l) (sym (rw e at (drop_take i (n - i) w)))
 
 -- it looks at the first n only
 pub row_kept : (v w : List ℕ) (n i r : ℕ) → take n v ≡ take n w → row_end v n i r ≡ row_end w n i r

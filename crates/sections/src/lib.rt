@@ -25,12 +25,6 @@ use outlines::inside::point_inside_by;
 use rules::{Entry, Piece, Settings};
 
 #[derive(Clone, Copy)]
-pub enum Found {
-    At(usize),
-    Nothing,
-}
-
-#[derive(Clone, Copy)]
 pub struct Mark {
     pub section: usize,
     pub nth: usize,
@@ -59,13 +53,11 @@ fn piece_at(pieces: &[f64], i: usize) -> Piece
     }
 }
 
+#[tactic(auto, unfolding(rules::specs::Fill::overlap))]
 fn overlap(last: Piece, next: Piece) -> bool
     ensures { result ≡ overlap last next }
 {
-    if last.xa < next.xb {
-        return next.xa < last.xb;
-    }
-    false
+    last.xa < next.xb && next.xa < last.xb
 }
 
 // The piece at place t with its mark.
@@ -152,12 +144,7 @@ fn connects(
     ensures { result ≡ connects (rings corners.now ends.now) rule g o next }
 {
     let link = link_ends(o, next);
-    if link_inside(corners, ends, h, rule, g, link, 1) {
-        if link_inside(corners, ends, h, rule, g, link, 2) {
-            return link_inside(corners, ends, h, rule, g, link, 3);
-        }
-    }
-    false
+    (1..4).all(|k| link_inside(corners, ends, h, rule, g, link, k))
 }
 
 // What all rows of a fill share.
@@ -177,28 +164,24 @@ fn joins(
     wholes: &[usize],
     s: Row,
     j: usize,
-) -> Found
+) -> Option<usize>
     requires { Measured corners.now ends.now h.now × Ranges s pieces.now wholes.now × (j < s.r1) × (s.r0 ≤ j) × Rising pieces.now s.b0 s.r0 × Rising pieces.now s.r0 s.r1 }
     ensures { (result ≡ joins_at (rings corners.now ends.now) f.rule f.settings pieces.now wholes.now s j) × Within result s.b0 s.r0 }
 {
     let p = piece_at(pieces, j);
-    let r0 = s.r0;
-    let a = only_open(pieces, s.b0, r0, p);
-    let Found::At(t) = a else {
-        return Found::Nothing;
-    };
+    let t = only_open(pieces, s.b0, s.r0, p)?;
     let o = entry_at(pieces, wholes, s.n, t);
-    if !meets_one(pieces, r0, s.r1, j, piece_at(pieces, t)) {
-        return Found::Nothing;
+    if !meets_one(pieces, s.r0, s.r1, j, o.piece) {
+        return None;
     }
-    let rule = f.rule;
-    if connects(corners, ends, h, rule, f.settings, o, p) {
-        return Found::At(t);
+    if connects(corners, ends, h, f.rule, f.settings, o, p) {
+        return Some(t);
     }
-    Found::Nothing
+    None
 }
 
 // The mark of the piece at j, where a new section gets the number `new`.
+#[tactic(auto, unfolding(crate::specs::Mark::mark_at))]
 fn mark_at(
     corners: &[f64],
     ends: &[usize],
@@ -213,17 +196,18 @@ fn mark_at(
     requires { Measured corners.now ends.now h.now × Ranges s pieces.now wholes.now × (j < s.r1) × Low s.n s.b0 s.r0 wholes.now 1000000 × (s.r0 ≤ j) × Rising pieces.now s.b0 s.r0 × Rising pieces.now s.r0 s.r1 }
     ensures { result ≡ mark_at (rings corners.now ends.now) f.rule f.settings pieces.now wholes.now s new j }
 {
-    let o = joins(corners, ends, h, f, pieces, wholes, s, j);
-    let Found::At(t) = o else {
-        return Mark {
+    match joins(corners, ends, h, f, pieces, wholes, s, j) {
+        None => Mark {
             section: new,
             nth: 0,
-        };
-    };
-    let k = s.n + 2 * t;
-    Mark {
-        section: wholes[k],
-        nth: wholes[k + 1] + 1,
+        },
+        Some(t) => {
+            let k = s.n + 2 * t;
+            Mark {
+                section: wholes[k],
+                nth: wholes[k + 1] + 1,
+            }
+        }
     }
 }
 
@@ -231,10 +215,7 @@ fn after(new: usize, m: Mark) -> usize
     requires { new ≤ 1000000000 }
     ensures { (result ≡ after_at new m) × (result ≤ new + 1) }
 {
-    if m.nth == 0 {
-        return new + 1;
-    }
-    new
+    if m.nth == 0 { new + 1 } else { new }
 }
 
 fn put_mark(wholes: &mut [usize], k: usize, m: Mark)
@@ -259,13 +240,11 @@ fn mark_row(
     requires { Measured corners.now ends.now h.now × Ranges s pieces.now wholes.old × Low s.n s.b0 s.r0 wholes.old 1000000 × (s.n ≤ 10000000) × (new ≤ s.r0) × Rising pieces.now s.b0 s.r0 × Rising pieces.now s.r0 s.r1 }
     ensures { Wrote wholes.old wholes.new (s.n + 2 * s.r0) (row_marks (rings corners.now ends.now) f.rule f.settings pieces.now wholes.old s new s.r0 (s.r1 - s.r0)) × (result ≡ row_new (rings corners.now ends.now) f.rule f.settings pieces.now wholes.old s new s.r0 (s.r1 - s.r0)) × (result ≤ s.r1) }
 {
-    let mut j = s.r0;
     let mut section = new;
-    while j < s.r1 {
+    for j in s.r0..s.r1 {
         let m = mark_at(corners, ends, h, f, pieces, wholes, s, section, j);
         put_mark(wholes, s.n + 2 * j, m);
         section = after(section, m);
-        j += 1;
     }
     section
 }
@@ -275,14 +254,7 @@ fn row_end(wholes: &[usize], n: usize, i: usize, r: usize) -> usize
     requires { (i ≤ n) × (n ≤ length wholes.now) }
     ensures { (result ≡ row_end wholes.now n i r) × (i ≤ result) × (result ≤ n) }
 {
-    let mut j = i;
-    while j < n {
-        if wholes[j] != r {
-            return j;
-        }
-        j += 1;
-    }
-    j
+    i + wholes[i..n].iter().take_while(|row| **row == r).count()
 }
 
 // The marks of all pieces, row by row.
@@ -302,19 +274,12 @@ fn mark_rows(
     let mut b0 = 0;
     let mut r0 = 0;
     let mut section = 0;
-    let mut r = 0;
-    while r < rows {
+    for r in 0..rows {
         let r1 = row_end(wholes, n, r0, r);
-        let s = Row {
-            n: n,
-            b0: b0,
-            r0: r0,
-            r1: r1,
-        };
+        let s = Row { n, b0, r0, r1 };
         section = mark_row(corners, ends, h, f, pieces, wholes, s, section);
         b0 = r0;
         r0 = r1;
-        r += 1;
     }
     section
 }

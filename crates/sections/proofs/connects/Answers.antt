@@ -1,23 +1,21 @@
-use mathlib.Core.Path.{refl}
+-- The three points. Assumes nothing.
+use Rattle.std.proofs.Common.{rules, tests, ℕ, Bool, true, false, refl, ◌≡◌, ◌∙◌, ◌&&◌, arith}
+use Rattle.std.proofs.lemmas.Iterator.{YieldsList-from_range}
+use Rattle.std.proofs.lemmas.Iterator.Search.{all_from_yields_List}
 use Rattle.geom.specs.Outline.{rings}
+use Rattle.rules.specs.Fill.{link_inside}
 use Rattle.sections.specs.MarkLaws.{three}
-use borrow.Author.Rules.{rules}
 use Rattle.sections.proofs.connects.Goals as goal
 
-pub returns-then-link_inside-2 : goal.returns-then-link_inside-2
-returns-then-link_inside-2 c =
-    let a = c.args in
-    let t = three (rings a.corners.now a.ends.now) a.rule a.g a.o a.next c.link_ends-link.ensures.0 c.link_ends-link.ensures.1 c.link_inside.ensures c.link_inside-then-link_inside.ensures c.link_inside-then-link_inside-2.ensures in
-    rw (c.if-link_inside.true, c.if-link_inside-2.true) at t
+flat : (a b c : Bool) → (a && (b && (c && true))) ≡ (a && b && c)
+flat true true true = refl
+flat true true false = refl
+flat true false c = refl
+flat false b c = refl
 
-pub returns-else-link_inside-2 : goal.returns-else-link_inside-2
-returns-else-link_inside-2 c =
+pub returns : goal.returns
+returns c =
     let a = c.args in
-    let t = three (rings a.corners.now a.ends.now) a.rule a.g a.o a.next c.link_ends-link.ensures.0 c.link_ends-link.ensures.1 c.link_inside.ensures c.link_inside-then-link_inside.ensures refl in
-    rw (c.if-link_inside.true, c.if-link_inside-2.false) at t
-
-pub returns-else-link_inside : goal.returns-else-link_inside
-returns-else-link_inside c =
-    let a = c.args in
-    let t = three (rings a.corners.now a.ends.now) a.rule a.g a.o a.next c.link_ends-link.ensures.0 c.link_ends-link.ensures.1 c.link_inside.ensures refl refl in
-    rw c.if-link_inside.false at t
+    let test = λ (k : ℕ). link_inside (rings a.corners.now a.ends.now) a.rule a.g (c.link_ends-link.result.from, c.link_ends-link.result.to) k in
+    let e = all_from_yields_List test _ _ c.all.result c.all.ensures.ran (YieldsList-from_range 1 4 3 (cc) (omega arith)) (λ x b q k. search (rules, tests)) in
+    e ∙ flat (test 1) (test 2) (test 3) ∙ three (rings a.corners.now a.ends.now) a.rule a.g a.o a.next c.link_ends-link.ensures.0 c.link_ends-link.ensures.1 refl refl refl

@@ -3,7 +3,6 @@ use borrow.Author.Tests.{eq-eqb, ne_eqb}
 use lib.Ieee.{of_bits, neg, round}
 use Rattle.numbers.specs.Num.{literal}
 use Rattle.rules.specs.Fill.{link_ends}
-use borrow.Author.Rules.{rules}
 use Rattle.sections.proofs.link_ends.Goals as goal
 
 pub returns-then-o-eq0 : goal.returns-then-o-eq0

@@ -1,6 +1,5 @@
 use mathlib.Core.Path.{◌∙◌}
 use Rattle.rules.specs.Fill.{link_inside}
-use borrow.Author.Rules.{rules}
 use Rattle.sections.proofs.link_inside.Goals as goal
 
 pub returns : goal.returns

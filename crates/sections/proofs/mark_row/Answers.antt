@@ -1,18 +1,10 @@
 use mathlib.Core.Path.{◌≡◌, refl, sym, ◌∙◌}
-use mathlib.Core.List.{List}
-use Prim.Native.Nat.{ℕ, ◌+◌, ◌-◌, ◌*◌, ◌≤◌}
+use Prim.Native.Nat.{◌+◌, ◌*◌}
 use native.Mathlib.Omega.{arith}
-use lib.Ieee.{Float}
-use Rattle.seqs.specs.Wrote.{Run, run_start, run_at, run_step, run_end}
-use Rattle.geom.specs.declared.point.P.{P}
-use Rattle.outlines.specs.declared.rule.FillRule.{FillRule}
+use Rattle.seqs.specs.Wrote.{run_start, run_at, run_step, run_end}
 use Rattle.geom.specs.Outline.{rings}
-use Rattle.rules.specs.declared.Settings.{Settings}
-use Rattle.sections.specs.Mark.{row_marks, row_new}
 use Rattle.sections.specs.MarkFrame.{mark_kept, low_kept, row_next, row_none}
-use Rattle.sections.specs.declared.Row.{Row}
 use borrow.Author.Rules.{rules}
-use Rattle.sections.proofs.mark_row.Invariants.{Inv}
 use Rattle.sections.proofs.mark_row.Goals as goal
 
 pub loop-j-init : goal.loop-j-init
@@ -43,12 +35,6 @@ put_mark-requires c = omega (arith, c.loop-j.invariant.most, c.loop-j.invariant.
 
 pub after-section-requires : goal.after-section-requires
 after-section-requires c = omega (arith, c.loop-j.invariant.most, c.loop-j.invariant.to, c.loop-j.invariant.run.size, c.requires.1.all, c.requires.1.marks, c.requires.3)
-
-pub overflow_add-j : goal.overflow_add-j
-overflow_add-j c = omega (arith, c.loop-j.invariant.most, c.loop-j.invariant.to, c.loop-j.invariant.run.size, c.requires.1.all, c.requires.1.marks, c.requires.3)
-
-pub loop-j-smaller : goal.loop-j-smaller
-loop-j-smaller c = omega (arith, c.loop-j.invariant.to)
 
 pub loop-j-preserved : goal.loop-j-preserved
 loop-j-preserved c =

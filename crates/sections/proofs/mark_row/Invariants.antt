@@ -1,17 +1,14 @@
-use mathlib.Core.Path.{◌≡◌, refl, sym, ◌∙◌}
+use mathlib.Core.Path.{◌≡◌}
 use mathlib.Core.List.{List}
 use Prim.Native.Nat.{ℕ, ◌+◌, ◌-◌, ◌*◌, ◌≤◌}
-use native.Mathlib.Omega.{arith}
 use lib.Ieee.{Float}
-use Rattle.seqs.specs.Wrote.{Run, run_start, run_at, run_step, run_end}
+use Rattle.seqs.specs.Wrote.{Run}
 use Rattle.geom.specs.declared.point.P.{P}
 use Rattle.outlines.specs.declared.rule.FillRule.{FillRule}
 use Rattle.geom.specs.Outline.{rings}
 use Rattle.rules.specs.declared.Settings.{Settings}
 use Rattle.sections.specs.Mark.{row_marks, row_new}
-use Rattle.sections.specs.MarkFrame.{mark_kept, low_kept, row_next, row_none}
 use Rattle.sections.specs.declared.Row.{Row}
-use borrow.Author.Rules.{rules}
 use Rattle.sections.proofs.mark_row.Given as goal
 
 pub record Inv (rs : List (List P)) (rule : FillRule) (g : Settings) (l : List Float) (s : Row) (new : ℕ) (w v : List ℕ) (j section : ℕ) : Type 0 where
@@ -23,6 +20,3 @@ pub record Inv (rs : List (List P)) (rule : FillRule) (g : Settings) (l : List F
 
 abbrev pub invariant-loop-j : goal.invariant-loop-j
 invariant-loop-j l = Inv (rings l.corners l.ends) l.f.rule l.f.settings l.pieces l.s l.new l.initial.wholes l.wholes l.j l.section
-
-abbrev pub decreases-loop-j : goal.decreases-loop-j
-decreases-loop-j l = l.s.r1 - l.j

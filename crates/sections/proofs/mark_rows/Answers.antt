@@ -1,7 +1,6 @@
-use Prim.Native.Nat.{◌-◌}
 use native.Mathlib.Omega.{arith}
 use Rattle.geom.specs.Outline.{rings}
-use Rattle.sections.specs.AllRows.{Marking, marking_start, marking_rises, marking_next, marking_end, marking_low}
+use Rattle.sections.specs.AllRows.{marking_start, marking_rises, marking_next, marking_end, marking_low}
 use borrow.Author.Rules.{rules}
 use Rattle.sections.proofs.mark_rows.Goals as goal
 
@@ -24,9 +23,6 @@ mark_row-section-requires c =
       v.last,
       marking_rises (rings a.corners.now a.ends.now) a.f.rule a.f.settings a.pieces.now a.wholes.now a.n a.rows v c.loop-r-test.true e.0,
     )
-
-pub overflow_add-r : goal.overflow_add-r
-overflow_add-r c = omega (arith, c.requires.4)
 
 pub loop-r-preserved : goal.loop-r-preserved
 loop-r-preserved c =

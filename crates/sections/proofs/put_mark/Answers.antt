@@ -1,7 +1,6 @@
 use native.Mathlib.Omega.{arith}
 use lib.ListN.{length-set}
 use Rattle.seqs.specs.Wrote.{wrote_stores}
-use borrow.Author.Rules.{rules}
 use Rattle.sections.proofs.put_mark.Goals as goal
 
 pub bounds-wholes-k-2 : goal.bounds-wholes-k-2

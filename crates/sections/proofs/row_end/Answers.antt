@@ -1,28 +1,19 @@
-use mathlib.Core.Path.{◌≡◌, refl, sym, ◌∙◌}
-use Prim.Native.Nat.{◌-◌, ◌≤◌}
-use native.Mathlib.Omega.{arith}
-use Rattle.sections.specs.Mark.{row_end}
-use Rattle.sections.specs.RowEnds.{row_more, row_stop, row_done}
-use borrow.Author.Rules.{rules}
+use Rattle.std.proofs.Common.{rules, tests, ◌≡◌, ◌-◌, eqb, arith, length, take, drop, sym, ◌∙◌}
+use Rattle.std.specs.List.{prefix_len}
+use Rattle.std.proofs.lemmas.Iterator.{YieldsList-from_slice}
+use Rattle.std.proofs.lemmas.Iterator.Consumers.{count_from_yields_List}
+use Rattle.std.proofs.lemmas.Iterator.Search.{YieldsList-from_take_while}
+use Rattle.std.proofs.lemmas.List.Folds.{length-prefix_len}
+use Rattle.std.proofs.lemmas.List.Sums.{prefix_len-le-length}
+use Rattle.std.proofs.lemmas.List.{length-take-le, length-drop}
+use Rattle.sections.specs.RowEnds.{row_end_part}
 use Rattle.sections.proofs.row_end.Goals as goal
-
-pub loop-j-init : goal.loop-j-init
-loop-j-init c = (omega arith, search rules, refl)
-
-pub returns-then-wholes-j : goal.returns-then-wholes-j
-returns-then-wholes-j c =
-    let a = c.args in
-    let l = c.loop-j in
-    (sym (l.invariant.2 ∙ row_stop a.wholes.now a.n l.j a.r c.requires.1 c.loop-j-test.true c.if-wholes-j.true), l.invariant.0, l.invariant.1)
-
-pub loop-j-preserved : goal.loop-j-preserved
-loop-j-preserved c =
-    let a = c.args in
-    let l = c.loop-j in
-    (omega (arith, l.invariant.0), omega arith, l.invariant.2 ∙ row_more a.wholes.now a.n l.j a.r c.requires.1 c.loop-j-test.true c.if-wholes-j.false)
 
 pub returns : goal.returns
 returns c =
     let a = c.args in
-    let l = c.loop-j in
-    (sym (l.invariant.2 ∙ row_done a.wholes.now a.n l.j a.r c.requires.1 (search rules)), l.invariant.0, l.invariant.1)
+    let part = take (a.n - a.i) (drop a.i a.wholes.now) in
+    let k : c.count.result ≡ prefix_len (λ x. eqb x a.r) part =
+    count_from_yields_List c.take_while.result _ c.count.ensures.ran (YieldsList-from_take_while _ (λ x. eqb x a.r) (YieldsList-from_slice part (cc)) c.take_while.ensures.closure c.take_while.ensures.done (λ x b q k. search (rules, tests))) ∙ length-prefix_len (λ x. eqb x a.r) part in
+    let m : length part ≡ a.n - a.i = length-take-le (a.n - a.i) (drop a.i a.wholes.now) (omega (arith, length-drop a.i a.wholes.now)) in
+    (rw k (sym (row_end_part a.wholes.now a.n a.i a.r c.requires.0)), omega arith, omega (arith, k, m, prefix_len-le-length (λ x. eqb x a.r) part, c.requires.0))

@@ -1,15 +1,18 @@
-use native.Mathlib.Omega.{arith}
+-- By the neighbours. Assumes nothing.
+use Rattle.std.proofs.Common.{rules, ◌≡◌, not, ltb, ◌&&◌, ◌+◌, ◌-◌, ap}
+use Rattle.sections.specs.Mark.{under}
 use Rattle.sections.specs.RiseLaws.{meets_tested, meets_blocked}
 use Rattle.sections.proofs.rise.meets_one.Goals as goal
 
-pub clear_left-requires : goal.clear_left-requires
-clear_left-requires c = omega (arith, c.requires.2, c.requires.3)
+pub returns-then-not-before : goal.returns-then-not-before
+returns-then-not-before c =
+    let a = c.args in
+    let x : not c.if-r0-j.before ≡ not (ltb a.r0 a.j && under a.pieces.now a.o (a.j - 1)) = search rules in
+    let y : not c.if-j-r1.behind ≡ not (ltb (a.j + 1) a.r1 && under a.pieces.now a.o (a.j + 1)) = search rules in
+    meets_tested a.pieces.now a.r0 a.r1 c.requires.0 a.o a.j c.requires.1 c.requires.2 c.requires.4 x y (ap not c.if-not-before.true)
 
-pub clear_right-requires : goal.clear_right-requires
-clear_right-requires c = (c.requires.3, c.requires.2)
-
-pub returns-then-clear_left : goal.returns-then-clear_left
-returns-then-clear_left c = let a = c.args in meets_tested a.pieces.now a.r0 a.r1 c.requires.0 a.o a.j c.requires.1 c.requires.2 c.requires.4 c.clear_left.ensures c.clear_right.ensures c.if-clear_left.true
-
-pub returns : goal.returns
-returns c = let a = c.args in meets_blocked a.pieces.now a.r0 a.r1 c.requires.0 a.o a.j c.requires.1 c.requires.2 c.requires.4 c.clear_left.ensures c.if-clear_left.false
+pub returns-else-not-before : goal.returns-else-not-before
+returns-else-not-before c =
+    let a = c.args in
+    let x : not c.if-r0-j.before ≡ not (ltb a.r0 a.j && under a.pieces.now a.o (a.j - 1)) = search rules in
+    rw c.if-not-before.false (meets_blocked a.pieces.now a.r0 a.r1 c.requires.0 a.o a.j c.requires.1 c.requires.2 c.requires.4 x (ap not c.if-not-before.false))

@@ -1,8 +1,6 @@
 use mathlib.Core.Path.{sym, ◌∙◌}
 use native.Mathlib.Omega.{arith}
-use borrow.Author.Tests.{not-true, not-false}
 use Rattle.sections.specs.RiseLaws.{only_none, only_right, only_two, only_last, only_one}
-use borrow.Author.Rules.{rules}
 use Rattle.sections.proofs.rise.only_open.Goals as goal
 
 pub first_past-t-requires : goal.first_past-t-requires
