@@ -17,5 +17,5 @@ pub returns : goal.returns
 returns c =
     let a = c.args in
     let test = λ (k : ℕ). link_inside (rings a.corners.now a.ends.now) a.rule a.g (c.link_ends-link.result.from, c.link_ends-link.result.to) k in
-    let e = all_from_yields_List test _ _ c.all.result c.all.ensures.ran (YieldsList-from_range 1 4 3 (cc) (omega arith)) (λ x b q k. search (rules, tests)) in
+    let e = all_from_yields_List test _ _ c.all.result c.all.ensures.ran (YieldsList-from_range 1 4 3 refl (omega arith)) (λ x b q k. search (rules, tests)) in
     e ∙ flat (test 1) (test 2) (test 3) ∙ three (rings a.corners.now a.ends.now) a.rule a.g a.o a.next c.link_ends-link.ensures.0 c.link_ends-link.ensures.1 refl refl refl
