@@ -120,26 +120,18 @@ pub fn passes_of(
     Passes { under, top, t }
 }
 
-fn larger(m: usize, n: usize) -> usize
-    ensures { result ≡ most m n }
-{
-    if m <= n {
-        return n;
-    }
-    m
-}
-
 // The most places of any pass of the underlay.
+#[tactic(auto, using(std::proofs::lemmas::Bool::Decides::nat_tests))]
 pub fn underlay_most(u: Under) -> usize
     ensures { result ≡ most_under u }
 {
-    larger(u.n, u.m)
+    u.n.max(u.m)
 }
 
 // The most places of any pass.
+#[tactic(auto, using(std::proofs::lemmas::Bool::Decides::nat_tests))]
 pub fn column_most(p: Passes) -> usize
     ensures { result ≡ most_in p }
 {
-    let under = p.under;
-    larger(underlay_most(under), p.t)
+    underlay_most(p.under).max(p.t)
 }

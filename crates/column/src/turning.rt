@@ -23,9 +23,7 @@ pub fn turn_round(s: &mut [f64])
     ensures { s.new ≡ flat (reverse (points s.old)) }
 {
     let n = s.len() / 2;
-    let mut i = 0;
-    while 2 * i + 1 < n {
+    for i in 0..n / 2 {
         swap_points(s, i, n - 1 - i);
-        i += 1;
     }
 }

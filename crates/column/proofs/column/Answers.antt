@@ -2,13 +2,12 @@
 use mathlib.Core.Path.{refl, sym, ◌∙◌}
 use native.Mathlib.Omega.{arith}
 use lib.ListN.{length}
-use borrow.Author.Tests.{not-true, not-false, ne_eqb}
+use borrow.Author.Tests.{ne_eqb}
 use Rattle.geom.specs.Sewing.{flat}
 use Rattle.satinrules.specs.Calls.{rails_of, column_sewn, column_output, column_work}
 use Rattle.satin.specs.PassedLaws.{rails_small, few_any, worked_kept, sound}
 use Rattle.satinrules.specs.CallLaws.{no_column}
 use Rattle.column.specs.CallLaws.{refused_rails, refused_setting, passed_few, passed_on}
-use borrow.Author.Rules.{rules}
 use Rattle.column.proofs.column.Goals as goal
 
 pub returns-then-answer-ne-DONE : goal.returns-then-answer-ne-DONE

@@ -1,17 +1,12 @@
 -- `column_along` meets its contract: which of SIZE, WORK, ROOM and DONE it is. Assumes nothing.
-use mathlib.Core.Path.{◌≡◌, refl, sym, ap, ◌∙◌}
-use mathlib.Core.Bool.{true}
-use Prim.Native.Nat.{◌≤◌}
+use mathlib.Core.Path.{refl, sym, ap, ◌∙◌}
 use native.Mathlib.Omega.{arith}
 use lib.ListN.{length, length-replicate}
-use borrow.Author.Tests.{not-true, not-false}
 use Rattle.geom.specs.Outline.{points}
 use Rattle.satinrules.specs.Column.{column}
-use Rattle.satinrules.specs.Calls.{rails_of, pass_steps, sized, most_of, need}
-use Rattle.column.specs.Sized.{sized_at, most_in}
+use Rattle.satinrules.specs.Calls.{rails_of, pass_steps, need}
 use Rattle.column.specs.SizedLaws.{sized_is, most_is, most_small}
 use Rattle.column.specs.HalvesLaws.{ready, ready_same, column_size, column_work_lem, column_fitted, worked_fitted}
-use borrow.Author.Rules.{rules}
 use Rattle.column.proofs.halves.column_along.Goals as goal
 
 pub returns-then-not-column_sized : goal.returns-then-not-column_sized

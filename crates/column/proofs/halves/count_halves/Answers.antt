@@ -5,7 +5,6 @@ use lib.ListN.{take, drop}
 use Rattle.satin.specs.UnderlayLaws.{fit_some}
 use Rattle.column.specs.Halves.{top_path}
 use Rattle.column.specs.HalvesLaws.{stitched, lent_path, both_count}
-use borrow.Author.Rules.{rules}
 use Rattle.column.proofs.halves.count_halves.Goals as goal
 
 pub put_stitches-requires : goal.put_stitches-requires

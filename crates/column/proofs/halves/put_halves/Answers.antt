@@ -4,7 +4,6 @@ use native.Mathlib.Omega.{arith}
 use lib.ListN.{take, drop}
 use Rattle.column.specs.Halves.{top_path}
 use Rattle.column.specs.HalvesLaws.{lent_path, behind_room, before_room, halves_put}
-use borrow.Author.Rules.{rules}
 use Rattle.column.proofs.halves.put_halves.Goals as goal
 
 pub count_underlay-under-requires : goal.count_underlay-under-requires

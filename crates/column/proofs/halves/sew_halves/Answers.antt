@@ -6,7 +6,6 @@ use Rattle.geom.specs.SewingLaws.{not_fitted, counted, fits, is_fitted, flat_len
 use Rattle.satinrules.specs.Column.{column}
 use Rattle.satinrules.specs.Calls.{rails_of}
 use Rattle.column.specs.HalvesLaws.{ready_same}
-use borrow.Author.Rules.{rules}
 use Rattle.column.proofs.halves.sew_halves.Goals as goal
 
 pub returns-then-points-room : goal.returns-then-points-room

@@ -1,8 +1,6 @@
 use mathlib.Core.Path.{sym, ◌∙◌}
-use borrow.Author.Tests.{not-true, not-false}
 use Rattle.geom.specs.Outline.{points}
 use Rattle.column.specs.SizedLaws.{sized_halves}
-use borrow.Author.Rules.{rules}
 use Rattle.column.proofs.sized.column_sized.Goals as goal
 
 pub underlay_sized-requires : goal.underlay_sized-requires

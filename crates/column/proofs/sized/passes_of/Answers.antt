@@ -5,7 +5,6 @@ use Rattle.geom.specs.Outline.{points}
 use Rattle.pairing.specs.WalkLaws.{pass_by}
 use Rattle.column.specs.Sized.{passes_of}
 use Rattle.column.specs.SizedLaws.{top_sized, halves_sized}
-use borrow.Author.Rules.{rules}
 use Rattle.column.proofs.sized.passes_of.Goals as goal
 
 pub underlay_passes-under-requires : goal.underlay_passes-under-requires

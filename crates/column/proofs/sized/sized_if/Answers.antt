@@ -3,7 +3,6 @@ use Rattle.geom.specs.Outline.{points}
 use Rattle.pairing.specs.WalkLaws.{pass_by}
 use Rattle.column.specs.Sized.{sized_at}
 use Rattle.column.specs.SizedLaws.{sized_one}
-use borrow.Author.Rules.{rules}
 use Rattle.column.proofs.sized.sized_if.Goals as goal
 
 pub returns-then-sewn : goal.returns-then-sewn

@@ -1,5 +1,4 @@
 use Rattle.satinrules.specs.Calls.{top_steps}
-use borrow.Author.Rules.{rules}
 use Rattle.column.proofs.sized.top_sized.Goals as goal
 
 pub sized_if-requires : goal.sized_if-requires

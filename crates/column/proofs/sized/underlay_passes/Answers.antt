@@ -7,7 +7,6 @@ use Rattle.satinrules.specs.Settings.{zigzag_underlay_spacing}
 use Rattle.pairing.specs.WalkLaws.{pass_by}
 use Rattle.column.specs.Sized.{under_of}
 use Rattle.column.specs.SizedLaws.{run_sized, zigzag_sized}
-use borrow.Author.Rules.{rules}
 use Rattle.column.proofs.sized.underlay_passes.Goals as goal
 
 pub places_if-n-requires : goal.places_if-n-requires

@@ -1,7 +1,6 @@
 use mathlib.Core.Path.{◌≡◌, sym, ◌∙◌}
 use mathlib.Core.List.{[], ◌∷◌}
 use lib.Ieee.{of_bits, round}
-use borrow.Author.Tests.{not-true, not-false}
 use Rattle.numbers.specs.Num.{literal}
 use Rattle.geom.specs.Outline.{points}
 use Rattle.satinrules.specs.Settings.{zigzag_underlay_spacing}
@@ -9,7 +8,6 @@ use Rattle.satinrules.specs.Column.{only_if, bit}
 use Rattle.satin.specs.Underlay.{runs}
 use Rattle.column.specs.Sized.{sized_at}
 use Rattle.column.specs.SizedLaws.{sized_underlay}
-use borrow.Author.Rules.{rules}
 use Rattle.column.proofs.sized.underlay_sized.Goals as goal
 
 pub sized_if-requires : goal.sized_if-requires

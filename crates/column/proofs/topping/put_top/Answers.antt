@@ -5,7 +5,6 @@ use Rattle.geom.specs.Outline.{points}
 use Rattle.geom.specs.SewingLaws.{flat_length}
 use Rattle.satinrules.specs.Column.{styled}
 use Rattle.column.specs.ToppingLaws.{top_length, top_on, top_off, lent_end, lent_even, turned_put}
-use borrow.Author.Rules.{rules}
 use Rattle.column.proofs.topping.put_top.Goals as goal
 
 pub put_styled-to-requires : goal.put_styled-to-requires

@@ -5,7 +5,6 @@ use native.Mathlib.Omega.{arith}
 use mathlib.Core.List.{[], ◌∷◌}
 use Rattle.satin.specs.UnderlayLaws.{run_size}
 use Rattle.column.specs.TurnedLaws.{swap_put}
-use borrow.Author.Rules.{rules}
 use Rattle.column.proofs.turning.swap_points.Goals as goal
 
 pub put_point-requires-2 : goal.put_point-requires-2
