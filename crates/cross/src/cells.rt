@@ -60,15 +60,12 @@ fn first_inside(
     requires { Crossed corners.now ends.now sides.now size g y × Laid g × (i ≤ g.columns) }
     ensures { First (cell_inside (rings corners.now ends.now) rule g y) g.columns i result }
 {
-    let n = g.columns;
-    let mut j = i;
-    while j < n {
+    for j in i..g.columns {
         if cell_inside(corners, ends, sides, size, rule, g, y, j) {
             return j;
         }
-        j += 1;
     }
-    j
+    g.columns
 }
 
 // The first cell from i on that isn't.
@@ -85,16 +82,12 @@ fn first_outside(
     requires { Crossed corners.now ends.now sides.now size g y × Laid g × (i ≤ g.columns) }
     ensures { Stop (cell_inside (rings corners.now ends.now) rule g y) g.columns i result }
 {
-    let n = g.columns;
-    let mut j = i;
-    while j < n {
-        if cell_inside(corners, ends, sides, size, rule, g, y, j) {
-            j += 1;
-            continue;
+    for j in i..g.columns {
+        if !cell_inside(corners, ends, sides, size, rule, g, y, j) {
+            return j;
         }
-        return j;
     }
-    j
+    g.columns
 }
 
 // The next run from i on; with none left its count is 0.

@@ -60,15 +60,12 @@ pub fn count(corners: &[f64], ends: &[usize], rule: FillRule, g: Grid) -> Count
     requires { Layout corners.now ends.now × Laid g }
     ensures { result ≡ count_of (stitched (rings corners.now ends.now) rule g) }
 {
-    let n = g.rows;
     let mut s = 0;
     let mut at = 0;
-    let mut r = 0;
-    while r < n {
+    for r in 0..g.rows {
         let c = count_row(corners, ends, rule, g, y_at(g, r));
         s += c.lines;
         at += c.points;
-        r += 1;
     }
     Count {
         lines: s,

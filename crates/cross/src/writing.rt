@@ -31,11 +31,8 @@ fn put_out(out: &mut [f64], k: usize, g: Grid, y: f64, run: Run)
     requires { Laid g × (run.first + run.many ≤ g.columns) × (k + 4 * run.many ≤ length out.old) }
     ensures { out.new ≡ put out.old k (flat (each (out_over g y) (upto run.first run.many))) }
 {
-    let n = run.many;
-    let a = run.first;
-    let mut t = 0;
-    while t < n {
-        let x = x_at(g, a + t);
+    for t in 0..run.many {
+        let x = x_at(g, run.first + t);
         let p = P {
             x: x,
             y: y + g.cell,
@@ -45,7 +42,6 @@ fn put_out(out: &mut [f64], k: usize, g: Grid, y: f64, run: Run)
             y: y,
         };
         put_stitch(out, k + 4 * t, p, q);
-        t += 1;
     }
 }
 
@@ -54,18 +50,14 @@ fn put_back(out: &mut [f64], k: usize, g: Grid, y: f64, run: Run)
     requires { Laid g × (run.first + run.many ≤ g.columns) × (k + 4 * run.many ≤ length out.old) }
     ensures { out.new ≡ put out.old k (flat (each (back_over g y) (reverse (upto run.first run.many)))) }
 {
-    let n = run.many;
-    let a = run.first;
-    let mut t = 0;
-    while t < n {
-        let x = x_at(g, a + (n - 1 - t));
+    for t in 0..run.many {
+        let x = x_at(g, run.first + (run.many - 1 - t));
         let p = P {
             x: x + g.cell,
             y: y + g.cell,
         };
         let q = P { x: x, y: y };
         put_stitch(out, k + 4 * t, p, q);
-        t += 1;
     }
 }
 
@@ -149,15 +141,12 @@ pub fn write(
     requires { Layout corners.now ends.now × Laid g × (length (flat (sewn_points (stitched (rings corners.now ends.now) rule g))) ≤ length out.old) × (length (stitched (rings corners.now ends.now) rule g) ≤ length stops.old) }
     ensures { (result ≡ count_of (stitched (rings corners.now ends.now) rule g)) × (out.new ≡ left_points DONE (stitched (rings corners.now ends.now) rule g) out.old) × (stops.new ≡ left_ends DONE (stitched (rings corners.now ends.now) rule g) stops.old) }
 {
-    let n = g.rows;
     let mut done = Count {
         lines: 0,
         points: 0,
     };
-    let mut r = 0;
-    while r < n {
+    for r in 0..g.rows {
         done = put_row(out, stops, done, corners, ends, rule, g, y_at(g, r));
-        r += 1;
     }
     done
 }

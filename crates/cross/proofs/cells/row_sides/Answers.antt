@@ -1,6 +1,5 @@
 use native.Mathlib.Omega.{arith}
 use lib.Ieee.{of_bits}
-use borrow.Author.Rules.{rules}
 use Rattle.cross.proofs.cells.row_sides.Goals as goal
 
 pub returns-then-g-lt3 : goal.returns-then-g-lt3

@@ -1,7 +1,7 @@
 -- `count` meets its contract: the rows from r on are still to be counted. Assumes nothing.
 use native.Mathlib.Omega.{arith}
 use mathlib.Core.Path.{◌≡◌, ap, ◌∙◌}
-use Prim.Native.Nat.{◌+◌, ◌-◌, ◌*◌, ◌≤◌}
+use Prim.Native.Nat.{◌+◌}
 use lib.ListN.{length, length-append}
 use Rattle.geom.specs.Outline.{rings}
 use Rattle.rules.specs.Calls.{sewn_points}
@@ -15,7 +15,7 @@ use Rattle.cross.proofs.counting.count.Goals as goal
 pub loop-r-init : goal.loop-r-init
 loop-r-init c = let a = c.args in
     let e = rows_start (rings a.corners.now a.ends.now) a.rule a.g in
-    (omega arith, search rules, search rules, rw e (omega arith), rw e (omega arith))
+    (search rules, search rules, rw e (omega arith), rw e (omega arith))
 
 pub y_at-requires : goal.y_at-requires
 y_at-requires c = (c.requires.1, c.loop-r-test.true)
@@ -24,10 +24,10 @@ pub count_row-c-requires : goal.count_row-c-requires
 count_row-c-requires c = c.requires
 
 pub overflow_add-s : goal.overflow_add-s
-overflow_add-s c = record { fits = omega (arith, c.count_row-c.ensures.1, c.loop-r.invariant.1, c.requires.1.rows, c.loop-r-test.true) }
+overflow_add-s c = record { fits = omega (arith, c.count_row-c.ensures.1, c.loop-r.invariant.0, c.requires.1.rows, c.loop-r-test.true) }
 
 pub overflow_add-at : goal.overflow_add-at
-overflow_add-at c = record { fits = omega (arith, c.count_row-c.ensures.2, c.loop-r.invariant.2, c.requires.1.rows, c.loop-r-test.true) }
+overflow_add-at c = record { fits = omega (arith, c.count_row-c.ensures.2, c.loop-r.invariant.1, c.requires.1.rows, c.loop-r-test.true) }
 
 pub loop-r-preserved : goal.loop-r-preserved
 unfolding count_of
@@ -40,12 +40,12 @@ loop-r-preserved c = let a = c.args in let l = c.loop-r in
     let y = ap (λ ls. length (sewn_points ls)) n ∙ ap length (points_append row rest) ∙ length-append (sewn_points row) (sewn_points rest) in
     let u = ap (λ c. c.lines) e in
     let v = ap (λ c. c.points) e in
-    (omega (arith, c.loop-r-test.true), omega (arith, c.count_row-c.ensures.1, l.invariant.1), omega (arith, c.count_row-c.ensures.2, l.invariant.2), omega (arith, x, u, l.invariant.3), omega (arith, y, v, l.invariant.4))
+    (omega (arith, c.count_row-c.ensures.1, l.invariant.0), omega (arith, c.count_row-c.ensures.2, l.invariant.1), omega (arith, x, u, l.invariant.2), omega (arith, y, v, l.invariant.3))
 
 pub returns : goal.returns
 unfolding count_of
 returns c = let a = c.args in let l = c.loop-r in
     let n = rows_none (rings a.corners.now a.ends.now) a.rule a.g l.r (search rules) in
-    let x : l.s ≡ length (stitched (rings a.corners.now a.ends.now) a.rule a.g) = omega (arith, ap length n, l.invariant.3) in
-    let y : l.at ≡ length (sewn_points (stitched (rings a.corners.now a.ends.now) a.rule a.g)) = unfold sewn_points in omega (arith, ap (λ ls. length (sewn_points ls)) n, l.invariant.4) in
+    let x : l.s ≡ length (stitched (rings a.corners.now a.ends.now) a.rule a.g) = omega (arith, ap length n, l.invariant.2) in
+    let y : l.at ≡ length (sewn_points (stitched (rings a.corners.now a.ends.now) a.rule a.g)) = unfold sewn_points in omega (arith, ap (λ ls. length (sewn_points ls)) n, l.invariant.3) in
     rw (x, y)

@@ -2,13 +2,11 @@
 use native.Mathlib.Omega.{arith}
 use native.Mathlib.Nat.{pos_of_ne-zero}
 use mathlib.Core.Path.{◌≡◌, ap}
-use Prim.Native.Nat.{◌+◌, ◌-◌, ◌*◌, ◌≤◌}
 use lib.ListN.{length}
 use Rattle.geom.specs.Outline.{rings}
 use Rattle.rules.specs.Calls.{sewn_points}
 use Rattle.patterns_rules.specs.Patterns.{row_lines}
 use Rattle.patterns_rules.specs.Answers.{count_of}
-use Rattle.cross.specs.Cells.{lines_in}
 use Rattle.cross.specs.RowLaws.{lines_start, lines_none, lines_ended, lines_count, points_count}
 use borrow.Author.Rules.{rules}
 use Rattle.cross.proofs.counting.count_runs.Goals as goal

@@ -1,16 +1,11 @@
 -- `count_runs` meets its contract: the runs of the cells from i on are still to be counted. Assumes nothing.
-use native.Mathlib.Omega.{arith}
-use native.Mathlib.Nat.{pos_of_ne-zero}
-use mathlib.Core.Path.{◌≡◌, ap}
+use mathlib.Core.Path.{◌≡◌}
 use Prim.Native.Nat.{◌+◌, ◌-◌, ◌*◌, ◌≤◌}
 use lib.ListN.{length}
 use Rattle.geom.specs.Outline.{rings}
 use Rattle.rules.specs.Calls.{sewn_points}
 use Rattle.patterns_rules.specs.Patterns.{row_lines}
-use Rattle.patterns_rules.specs.Answers.{count_of}
 use Rattle.cross.specs.Cells.{lines_in}
-use Rattle.cross.specs.RowLaws.{lines_start, lines_none, lines_ended, lines_count, points_count}
-use borrow.Author.Rules.{rules}
 use Rattle.cross.proofs.counting.count_runs.Given as goal
 
 abbrev pub invariant-loop-i : goal.invariant-loop-i

@@ -1,5 +1,4 @@
 use Rattle.cross.specs.SideLaws.{settled_same}
-use borrow.Author.Rules.{rules}
 use Rattle.cross.proofs.grid.bounds.Goals as goal
 
 pub returns-then-settled : goal.returns-then-settled

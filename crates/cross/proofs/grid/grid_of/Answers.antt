@@ -1,6 +1,5 @@
 use mathlib.Core.Path.{sym, ◌∙◌}
 use Rattle.cross.specs.GridLaws.{grid_some, grid_none}
-use borrow.Author.Rules.{rules}
 use Rattle.seqs.specs.Signed.{cast_back}
 use Rattle.cross.proofs.grid.grid_of.Goals as goal
 

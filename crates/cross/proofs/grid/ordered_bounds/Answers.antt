@@ -1,12 +1,6 @@
 -- `ordered_bounds` meets its contract: the corners from i on are still to widen it. Assumes nothing.
-use mathlib.Core.Path.{◌≡◌, refl, sym, ◌∙◌}
-use Prim.Native.Nat.{◌-◌, ◌≤◌}
-use lib.ListN.{length, drop}
+use mathlib.Core.Path.{refl, sym, ◌∙◌}
 use lib.Ieee.{of_bits, nan_bits}
-use Rattle.seqs.specs.Lists.{fold}
-use Rattle.geom.specs.Outline.{points}
-use Rattle.patterns_rules.specs.Patterns.{widen}
-use Rattle.cross.specs.Cells.{bounds_of}
 use Rattle.cross.specs.BoundLaws.{widen_next, widen_end}
 use borrow.Author.Rules.{rules}
 use Rattle.cross.proofs.grid.ordered_bounds.Goals as goal

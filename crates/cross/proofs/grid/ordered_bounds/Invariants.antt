@@ -1,14 +1,11 @@
 -- `ordered_bounds` meets its contract: the corners from i on are still to widen it. Assumes nothing.
-use mathlib.Core.Path.{◌≡◌, refl, sym, ◌∙◌}
+use mathlib.Core.Path.{◌≡◌}
 use Prim.Native.Nat.{◌-◌, ◌≤◌}
 use lib.ListN.{length, drop}
-use lib.Ieee.{of_bits, nan_bits}
 use Rattle.seqs.specs.Lists.{fold}
 use Rattle.geom.specs.Outline.{points}
 use Rattle.patterns_rules.specs.Patterns.{widen}
 use Rattle.cross.specs.Cells.{bounds_of}
-use Rattle.cross.specs.BoundLaws.{widen_next, widen_end}
-use borrow.Author.Rules.{rules}
 use Rattle.cross.proofs.grid.ordered_bounds.Given as goal
 
 abbrev pub invariant-loop-i : goal.invariant-loop-i

@@ -11,7 +11,6 @@ use Rattle.geom.specs.Sewing.{flat}
 use Rattle.geom.specs.SewingLaws.{flat_length, flat_append}
 use Rattle.patterns_rules.specs.Patterns.{out_over, back_over, out_and_back}
 use Rattle.cross.specs.RowLaws.{half_out}
-use borrow.Author.Rules.{rules}
 use Rattle.cross.proofs.writing.put_run.Goals as goal
 
 pub put_out-requires : goal.put_out-requires

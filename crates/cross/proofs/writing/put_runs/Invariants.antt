@@ -1,20 +1,13 @@
 -- `put_runs` meets its contract: the runs of the cells from i on are still to be written. Assumes nothing.
-use native.Mathlib.Omega.{arith}
-use native.Mathlib.Nat.{pos_of_ne-zero}
 use mathlib.Core.List.{◌++◌}
 use Prim.Native.Nat.{◌-◌, ◌*◌, ◌^◌, ◌≤◌, ◌<◌}
 use lib.ListN.{length, take}
-use Rattle.seqs.specs.Front.{Front, front_from}
-use Rattle.seqs.specs.Wrote.{put_room}
+use Rattle.seqs.specs.Front.{Front}
 use Rattle.geom.specs.Outline.{rings}
 use Rattle.geom.specs.Sewing.{flat}
 use Rattle.rules.specs.Calls.{sewn_points, sewn_ends}
-use Rattle.rules.specs.CallLaws.{ends_length}
 use Rattle.patterns_rules.specs.Patterns.{row_lines}
 use Rattle.cross.specs.Cells.{lines_in}
-use Rattle.cross.specs.RowLaws.{lines_start, lines_none, lines_ended}
-use Rattle.cross.proofs.Turns.{run_room, run_put, stop_room, stop_put, rows_put}
-use borrow.Author.Rules.{rules}
 use Rattle.cross.proofs.writing.put_runs.Given as goal
 
 abbrev pub invariant-loop-i : goal.invariant-loop-i

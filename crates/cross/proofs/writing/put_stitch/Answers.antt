@@ -6,7 +6,6 @@ use lib.ListN.{length}
 use Rattle.seqs.specs.Put.{put_then, put_length}
 use Rattle.geom.specs.Sewing.{flat}
 use Rattle.geom.specs.SewingLaws.{flat_length}
-use borrow.Author.Rules.{rules}
 use Rattle.cross.proofs.writing.put_stitch.Goals as goal
 
 pub put_point-requires-2 : goal.put_point-requires-2
