@@ -1,11 +1,11 @@
 -- The marks of the grid's points, one after the other. Assumes nothing.
 use Rattle.std.specs.Prelude.{ℕ, ◌+◌, ◌-◌, ◌≤◌, ◌<◌, ◌≡◌, refl, List, [], ◌∷◌, map, length}
 use native.Mathlib.Omega.{arith}
-use Rattle.std.proofs.Common.{sym, ap, ◌∙◌}
+use Rattle.std.proofs.Common.{◌∙◌}
 use Rattle.seqs.specs.Lists.{upto}
 use Rattle.seqs.specs.Upto.{upto_next, upto_length}
 use Rattle.seqs.specs.Reads.{fuel_none}
-use Rattle.seqs.specs.Front.{Front, front_start, front_at}
+use Rattle.seqs.specs.Front.{Front, front_start}
 use Rattle.geom.specs.declared.point.P.{P}
 use Rattle.outlines.specs.declared.rule.FillRule.{FillRule}
 use Rattle.meander_rules.specs.declared.Lattice.{Lattice}

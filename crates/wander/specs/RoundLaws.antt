@@ -1,11 +1,11 @@
 -- The walks one after the other in a slice: paths cut where each ends. Assumes nothing.
-use Rattle.std.specs.Prelude.{ℕ, zero, suc, ◌+◌, ◌-◌, ◌*◌, ◌≤◌, ◌<◌, ◌≡◌, Bool, true, false, ◌&&◌, List, [], ◌∷◌, ◌++◌, leb, get_or, take, drop, set}
+use Rattle.std.specs.Prelude.{ℕ, ◌+◌, ◌-◌, ◌*◌, ◌≤◌, ◌<◌, ◌≡◌, Bool, true, false, List, [], ◌∷◌, ◌++◌, leb, take, drop, set}
 use native.Mathlib.Omega.{arith}
 use Rattle.std.proofs.Math.Path.{refl, ap}
-use Rattle.std.proofs.Common.{sym, ◌∙◌, subst, append-nil, length-set, length-append, length-drop, take_at, drop_at, take-take, drop-set-lt, take-suc-set, add-one, eqb-true, eq-eqb, leb-true, le-leb}
+use Rattle.std.proofs.Common.{sym, ◌∙◌, subst, length-set, length-append, length-drop, take_at, drop_at, take-take, take-suc-set, add-one, eqb-true, eq-eqb, leb-true, le-leb}
 use Rattle.std.proofs.Math.ListN.{length}
 use Rattle.std.proofs.Math.Seq.{length-take-le}
-use Rattle.std.proofs.lemmas.List.{take-append-le, take-set-le, drop-set-add}
+use Rattle.std.proofs.lemmas.List.{take-set-le, drop-set-add}
 use Rattle.seqs.specs.Lists.{upto, fold}
 use Rattle.seqs.specs.Upto.{upto_next}
 use Rattle.seqs.specs.Tests.{and_both}

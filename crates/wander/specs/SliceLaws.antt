@@ -1,12 +1,12 @@
 -- A step of a walk, in the slice that holds it. Assumes nothing.
-use Rattle.std.specs.Prelude.{ℕ, zero, suc, ◌+◌, ◌-◌, ◌*◌, ◌≤◌, ◌<◌, ◌≡◌, refl, true, false, length, get_or, take, set}
-use Rattle.std.proofs.Common.{arith, add-one, sym, ap, ◌∙◌, drop_of_length-le, length-append, length-take, length-take-le, get_or-set_same, take-suc-set}
+use Rattle.std.specs.Prelude.{ℕ, ◌+◌, ◌-◌, ◌*◌, ◌≤◌, ◌<◌, ◌≡◌, refl, length, get_or, take, set}
+use Rattle.std.proofs.Common.{arith, add-one, ◌∙◌, length-take-le, get_or-set_same, take-suc-set}
 use mathlib.Core.List.{List, [], ◌∷◌, ◌++◌, append-nil}
 use Rattle.std.proofs.Math.ListN.{drop, length-set}
 use Rattle.std.proofs.Math.Seq.{take-set-le, take-set-lt, drop-set-lt}
 use Rattle.std.proofs.lemmas.List.{drop-append-le}
 use Rattle.seqs.specs.Reads.{part_next, part_none}
-use Rattle.meander_rules.specs.Meander.{Walk, go_on, go_back}
+use Rattle.meander_rules.specs.Meander.{go_on, go_back}
 use Rattle.wander.specs.declared.Steps.{Steps}
 use Rattle.wander.specs.Walking.{walk_in, Sized, Stepped}
 

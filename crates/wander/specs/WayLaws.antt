@@ -1,12 +1,12 @@
 -- The ways on from a grid point, one after the other; and a turn of the shuffle. Assumes nothing.
-use Rattle.std.specs.Prelude.{ℕ, zero, suc, ◌+◌, ◌-◌, ◌*◌, ◌/◌, ◌%◌, ◌≤◌, ◌<◌, ◌≡◌, refl, Bool, true, false, List, [], ◌∷◌, ◌++◌, ltb, length, take, drop, get_or, set}
-use Rattle.std.proofs.Common.{arith, add-one, sym, ap, ◌∙◌, append_assoc, append-nil, length-set, length-append, take_at, ltb-true}
+use Rattle.std.specs.Prelude.{ℕ, zero, suc, ◌+◌, ◌-◌, ◌*◌, ◌/◌, ◌%◌, ◌≤◌, ◌<◌, ◌≡◌, refl, Bool, true, false, List, [], ◌++◌, ltb, length, take, drop, get_or, set}
+use Rattle.std.proofs.Common.{arith, sym, ap, ◌∙◌, append_assoc, length-append, take_at, ltb-true}
 use native.Mathlib.Nat.{zero-mul, mul-zero, mod-le, div-add-mod', mul-le-mul_left, mul-one, zero-div}
 use Rattle.seqs.specs.Lists.{keep_if}
 use Rattle.seqs.specs.Slices.{put}
-use Rattle.seqs.specs.Put.{put_then, put_length}
+use Rattle.seqs.specs.Put.{put_then}
 use Rattle.meander_rules.specs.declared.Lattice.{Lattice}
-use Rattle.meander_rules.specs.Meander.{next_seed, neighbours, swap, shuffle_from, shuffle}
+use Rattle.meander_rules.specs.Meander.{next_seed, neighbours, swap, shuffle_from}
 
 -- a grid with a point has columns and rows
 pub some_columns : (a b k : ℕ) → k < a * b → 0 < a

@@ -39,7 +39,7 @@ pub fn link_ok(
     segment_inside_by(corners, ends, h, rule, place(g, a), place(g, b), 2.0)
 }
 
-// 1 for point k where it is inside, otherwise 0.
+// Whether point k is inside, as a mark.
 fn mark_of(
     corners: &[f64],
     ends: &[usize],
@@ -51,10 +51,7 @@ fn mark_of(
     requires { Measured corners.now ends.now h.now × (0 < g.columns) }
     ensures { result ≡ mark_of (inside_at (rings corners.now ends.now) rule g k) }
 {
-    if point_inside_by(corners, ends, h, rule, place(g, k)) {
-        return 1;
-    }
-    0
+    usize::from(point_inside_by(corners, ends, h, rule, place(g, k)))
 }
 
 // The marks of all points to the front of w: all that are inside are free.
@@ -62,10 +59,7 @@ pub fn mark(w: &mut [usize], corners: &[f64], ends: &[usize], h: &[f64], rule: F
     requires { Measured corners.now ends.now h.now × (g.columns * g.rows ≤ length w.old) }
     ensures { w.new ≡ free_at_first (rings corners.now ends.now) rule g ++ drop (length (free_at_first (rings corners.now ends.now) rule g)) w.old }
 {
-    let n = g.columns * g.rows;
-    let mut k = 0;
-    while k < n {
+    for k in 0..g.columns * g.rows {
         w[k] = mark_of(corners, ends, h, rule, g, k);
-        k += 1;
     }
 }

@@ -5,10 +5,7 @@ ghost use Rattle.meander_rules.specs.Meander.{first_seed, next_seed};
 pub fn first_seed(seed: u64) -> u64
     ensures { result ≡ first_seed seed }
 {
-    if seed == 0 {
-        return 1 ^ 0x9E37_79B9_7F4A_7C15;
-    }
-    seed ^ 0x9E37_79B9_7F4A_7C15
+    seed.max(1) ^ 0x9E37_79B9_7F4A_7C15
 }
 
 pub fn next_seed(x: u64) -> u64

@@ -10,10 +10,7 @@ pub fn is_free(w: &[usize], n: usize, k: usize) -> bool
     requires { n ≤ length w.now }
     ensures { result ≡ is_free (take n w.now) k }
 {
-    if k < n {
-        return w[k] == 1;
-    }
-    false
+    k < n && w[k] == 1
 }
 
 // On to point k.
@@ -27,9 +24,9 @@ pub fn go_on(w: &mut [usize], n: usize, s: Steps, k: usize) -> Steps
     w[top] = k;
     w[at] = k;
     Steps {
-        top: top,
+        top,
         size: s.size + 1,
-        seed: s.seed,
+        ..s
     }
 }
 
@@ -44,14 +41,10 @@ pub fn go_back(w: &mut [usize], n: usize, s: Steps) -> Steps
         let k = w[top];
         w[at] = k;
         return Steps {
-            top: top,
+            top,
             size: s.size + 1,
-            seed: s.seed,
+            ..s
         };
     }
-    Steps {
-        top: top,
-        size: s.size,
-        seed: s.seed,
-    }
+    Steps { top, ..s }
 }

@@ -1,9 +1,10 @@
 // The walks of a meander: depth first, back along their own path where they are stuck, from each point in turn that is still free.
 ghost use Rattle.std.specs.Prelude.{◌≡◌, ◌&&◌, ◌*◌, ◌<◌, ◌≤◌, length, take};
+ghost use Rattle.std.specs.Option.{option_to_list};
 ghost use Rattle.geom.specs.Outline.{rings};
 ghost use Rattle.outlines.specs.Heights.{Measured};
 ghost use Rattle.meander_rules.specs.Meander.{points_of, most_points, link_ok, neighbours, shuffle, is_free, open_way, turn, start_at, walks_of};
-ghost use Rattle.wander.specs.Walking.{found, walk_in, Ready, Stepped, finish, walks_in, Between};
+ghost use Rattle.wander.specs.Walking.{walk_in, Ready, Stepped, finish, walks_in, Between};
 
 use crate::grid::link_ok;
 use crate::slice::{go_back, go_on, is_free};
@@ -12,10 +13,10 @@ use crate::{Round, Steps};
 use meander_rules::Lattice;
 use outlines::FillRule;
 
-// A way that was picked, or the count of points where there is none; and the random source after it.
+// A way that was picked, where there is one, and the random source after it.
 #[derive(Clone, Copy)]
 pub struct Picked {
-    pub way: usize,
+    pub way: Option<usize>,
     pub seed: u64,
 }
 
@@ -33,10 +34,7 @@ fn is_open(
     requires { Measured corners.now ends.now h.now × (0 < g.columns) × (points_of g ≤ length w.now) }
     ensures { result ≡ (is_free (take (points_of g) w.now) k && link_ok (rings corners.now ends.now) rule g here k) }
 {
-    if is_free(w, g.columns * g.rows, k) {
-        return link_ok(corners, ends, h, rule, g, here, k);
-    }
-    false
+    is_free(w, g.columns * g.rows, k) && link_ok(corners, ends, h, rule, g, here, k)
 }
 
 // The first of the ways that is open.
@@ -49,19 +47,16 @@ fn first_open(
     rule: FillRule,
     g: Lattice,
     here: usize,
-) -> usize
+) -> Option<usize>
     requires { Measured corners.now ends.now h.now × (0 < g.columns) × (points_of g ≤ length w.now) }
-    ensures { found (points_of g) result ≡ open_way (link_ok (rings corners.now ends.now) rule g) (take (points_of g) w.now) here ways.now }
+    ensures { option_to_list result ≡ open_way (link_ok (rings corners.now ends.now) rule g) (take (points_of g) w.now) here ways.now }
 {
-    let mut i = 0;
-    while i < ways.len() {
-        let k = ways[i];
+    for &k in ways {
         if is_open(w, corners, ends, h, rule, g, here, k) {
-            return k;
+            return Some(k);
         }
-        i += 1;
     }
-    g.columns * g.rows
+    None
 }
 
 // The way on from here, of the ways that are given, in random order.
@@ -77,7 +72,7 @@ fn pick_of(
     seed: u64,
 ) -> Picked
     requires { Measured corners.now ends.now h.now × (0 < g.columns) × (points_of g ≤ length w.now) }
-    ensures { (found (points_of g) result.way ≡ open_way (link_ok (rings corners.now ends.now) rule g) (take (points_of g) w.now) here (shuffle ways.old seed).order) × (result.seed ≡ (shuffle ways.old seed).seed) }
+    ensures { (option_to_list result.way ≡ open_way (link_ok (rings corners.now ends.now) rule g) (take (points_of g) w.now) here (shuffle ways.old seed).order) × (result.seed ≡ (shuffle ways.old seed).seed) }
 {
     let x = shuffle(ways, seed);
     Picked {
@@ -98,7 +93,7 @@ fn pick(
     seed: u64,
 ) -> Picked
     requires { Measured corners.now ends.now h.now × (here < points_of g) × (points_of g ≤ most_points) × (points_of g ≤ length w.now) }
-    ensures { (found (points_of g) result.way ≡ open_way (link_ok (rings corners.now ends.now) rule g) (take (points_of g) w.now) here (shuffle (neighbours g here) seed).order) × (result.seed ≡ (shuffle (neighbours g here) seed).seed) }
+    ensures { (option_to_list result.way ≡ open_way (link_ok (rings corners.now ends.now) rule g) (take (points_of g) w.now) here (shuffle (neighbours g here) seed).order) × (result.seed ≡ (shuffle (neighbours g here) seed).seed) }
 {
     let mut ways = [0usize; 4];
     let m = neighbours(&mut ways, g, here);
@@ -119,19 +114,13 @@ fn turn(
     ensures { Stepped (points_of g) w.old w.new result (turn g (link_ok (rings corners.now ends.now) rule g) (walk_in (points_of g) w.old s)) }
 {
     let n = g.columns * g.rows;
-    let top = s.top;
-    let here = w[top];
+    let here = w[s.top];
     let p = pick(w, corners, ends, h, rule, g, here, s.seed);
-    let t = Steps {
-        top: top,
-        size: s.size,
-        seed: p.seed,
-    };
-    let k = p.way;
-    if k < n {
-        return go_on(w, n, t, k);
+    let t = Steps { seed: p.seed, ..s };
+    match p.way {
+        Some(k) => go_on(w, n, t, k),
+        None => go_back(w, n, t),
     }
-    go_back(w, n, t)
 }
 
 // The walk to its end.
@@ -202,16 +191,13 @@ pub fn walks(
     requires { Measured corners.now ends.now h.now × (points_of g ≤ most_points) × (8 * points_of g ≤ length w.old) }
     ensures { (walks_in (points_of g) w.new result ≡ walks_of g (link_ok (rings corners.now ends.now) rule g) (take (points_of g) w.old) seed) × Between (points_of g) w.new result × (length w.new ≡ length w.old) }
 {
-    let n = g.columns * g.rows;
     let mut t = Round {
         walks: 0,
         size: 0,
-        seed: seed,
+        seed,
     };
-    let mut k = 0;
-    while k < n {
+    for k in 0..g.columns * g.rows {
         t = start_at(w, corners, ends, h, rule, g, t, k);
-        k += 1;
     }
     t
 }

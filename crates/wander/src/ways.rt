@@ -51,16 +51,10 @@ pub fn shuffle(order: &mut [usize], seed: u64) -> u64
     ensures { (order.new ≡ (shuffle order.old seed).order) × (result ≡ (shuffle order.old seed).seed) }
 {
     let mut x = seed;
-    let mut n = order.len();
-    while n > 1 {
+    for i in (1..order.len()).rev() {
         x = next_seed(x);
-        let j = (x % (n as u64)) as usize;
-        let i = n - 1;
-        let a = order[i];
-        let b = order[j];
-        order[i] = b;
-        order[j] = a;
-        n = i;
+        let j = (x % (i as u64 + 1)) as usize;
+        order.swap(i, j);
     }
     x
 }

@@ -1,7 +1,6 @@
 -- `link_ok` meets its contract. Assumes nothing.
 use lib.Ieee.{of_bits, of_int, round}
 use Rattle.meander_rules.specs.Meander.{link_ok}
-use borrow.Author.Rules.{rules}
 use Rattle.wander.proofs.grid.link_ok.Goals as goal
 
 pub returns : goal.returns

@@ -1,6 +1,5 @@
 -- `place` meets its contract. Assumes nothing.
 use Rattle.meander_rules.specs.Meander.{place}
-use borrow.Author.Rules.{rules}
 use Rattle.wander.proofs.grid.place.Goals as goal
 
 pub returns : goal.returns

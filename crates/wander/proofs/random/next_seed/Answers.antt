@@ -1,7 +1,6 @@
 -- `next_seed` meets its contract: the same operations. Assumes nothing.
 use mathlib.Core.Path.{refl}
 use Rattle.meander_rules.specs.Meander.{next_seed}
-use borrow.Author.Rules.{rules}
 use Rattle.wander.proofs.random.next_seed.Goals as goal
 
 pub returns : goal.returns

@@ -1,6 +1,5 @@
 -- `go_on` meets its contract. Assumes nothing.
 use Rattle.wander.specs.SliceLaws.{second_room, third_room, on_stepped}
-use borrow.Author.Rules.{rules}
 use Rattle.wander.proofs.slice.go_on.Goals as goal
 
 pub bounds-w-top : goal.bounds-w-top

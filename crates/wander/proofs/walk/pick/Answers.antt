@@ -3,7 +3,6 @@ use native.Mathlib.Omega.{arith}
 use mathlib.Core.Path.{◌≡◌}
 use Prim.Native.Nat.{◌-◌}
 use Rattle.wander.specs.WayLaws.{some_columns}
-use borrow.Author.Rules.{rules}
 use Rattle.wander.proofs.walk.pick.Goals as goal
 
 pub pick_of-requires : goal.pick_of-requires

@@ -1,5 +1,4 @@
 -- `pick_of` meets its contract. Assumes nothing.
-use borrow.Author.Rules.{rules}
 use Rattle.wander.proofs.walk.pick_of.Goals as goal
 
 pub first_open-requires : goal.first_open-requires

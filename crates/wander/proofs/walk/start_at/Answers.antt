@@ -1,13 +1,9 @@
 -- `start_at` meets its contract. Assumes nothing.
 use native.Mathlib.Omega.{arith}
-use mathlib.Core.Path.{◌≡◌, refl, sym, ◌∙◌}
-use mathlib.Core.Bool.{true}
-use Prim.Native.Nat.{◌≤◌}
-use lib.ListN.{length, take}
+use mathlib.Core.Path.{refl, sym, ◌∙◌}
 use Rattle.geom.specs.Outline.{rings}
-use Rattle.meander_rules.specs.Meander.{points_of, link_ok, is_free}
+use Rattle.meander_rules.specs.Meander.{link_ok}
 use Rattle.wander.specs.RoundLaws.{first_sized, first_low, first_top, first_size, begun_ready, last_room, round_is, round_between, round_long, round_none}
-use borrow.Author.Rules.{rules}
 use Rattle.wander.proofs.walk.start_at.Goals as goal
 
 pub is_free-requires : goal.is_free-requires

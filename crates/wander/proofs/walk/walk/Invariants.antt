@@ -1,12 +1,9 @@
 -- `walk` meets its contract: what is left of the walk is left of it. Assumes nothing.
-use native.Mathlib.Omega.{arith}
-use Prim.Native.Nat.{◌*◌, ◌≤◌}
 use Rattle.geom.specs.Outline.{rings}
 use Rattle.meander_rules.specs.Meander.{points_of, link_ok}
 use Rattle.meander_rules.specs.TurnLaws.{left}
 use Rattle.wander.specs.Walking.{walk_in}
-use Rattle.wander.specs.TurnSlices.{Walked, walked_start, walked_turn, walked_less, walked_end}
-use borrow.Author.Rules.{rules}
+use Rattle.wander.specs.TurnSlices.{Walked}
 use Rattle.wander.proofs.walk.walk.Given as goal
 
 abbrev pub invariant-loop-s : goal.invariant-loop-s

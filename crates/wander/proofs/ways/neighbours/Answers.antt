@@ -1,10 +1,8 @@
 -- `neighbours` meets its contract. Assumes nothing.
 use native.Mathlib.Omega.{arith}
 use native.Mathlib.Nat.{mod-le, div-le_self}
-use mathlib.Core.Path.{◌≡◌, ◌∙◌}
-use Prim.Native.Nat.{◌+◌, ◌*◌, ◌≤◌}
+use mathlib.Core.Path.{◌∙◌}
 use Rattle.wander.specs.WayLaws.{some_columns, few_columns, back_column, back_row, ways_put}
-use borrow.Author.Rules.{rules}
 use Rattle.wander.proofs.ways.neighbours.Goals as goal
 
 pub nonzero_rem-c : goal.nonzero_rem-c

@@ -2,11 +2,10 @@
 use native.Mathlib.Omega.{arith}
 use mathlib.Core.Path.{refl}
 use mathlib.Core.List.{[], ◌∷◌}
-use Prim.Native.Nat.{◌+◌, ◌-◌}
+use Prim.Native.Nat.{◌+◌}
 use lib.ListN.{length-set}
 use Rattle.seqs.specs.Front.{front_from, front_push, front_end}
 use Rattle.seqs.specs.Put.{put_none}
-use borrow.Author.Rules.{rules}
 use Rattle.wander.proofs.ways.put_on.Goals as goal
 
 pub returns-then-yes : goal.returns-then-yes
