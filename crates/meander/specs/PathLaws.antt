@@ -1,6 +1,6 @@
 -- The paths that a slice holds, lent as they stand; and the marks in its front. Assumes nothing.
-use Rattle.std.specs.Prelude.{ℕ, ◌+◌, ◌-◌, ◌*◌, ◌≤◌, ◌<◌, ◌≡◌, refl, Bool, true, ◌&&◌, leb, length, take, drop, Float}
-use Rattle.std.proofs.Common.{arith, sym, ◌∙◌, length-append, length-take-le, take_at, take-take, eqb-true, leb-true}
+use Rattle.std.specs.Prelude.{ℕ, ◌+◌, ◌-◌, ◌*◌, ◌≤◌, ◌≡◌, refl, true, leb, length, take, drop, Float}
+use Rattle.std.proofs.Common.{arith, ◌∙◌, length-append, length-take-le, take_at, take-take, leb-true}
 use Rattle.std.proofs.Math.Path.{ap}
 use mathlib.Core.List.{List, [], ◌∷◌, ◌++◌}
 use Rattle.std.proofs.Math.ListN.{length-drop}

@@ -1,6 +1,6 @@
 -- A grid whose counts are stopped past 400,000 is the grid, or is too large as the grid is. Assumes nothing.
-use Rattle.std.specs.Prelude.{ℕ, zero, suc, ◌+◌, ◌*◌, ◌≤◌, ◌<◌, ◌≡◌, refl, Bool, cond, ◌&&◌, ◌⊎◌, List, [], ◌∷◌, ltb, length, Float}
-use Rattle.std.proofs.Common.{arith, mul-le-mul, mul-one, mul-zero, zero-mul, one-mul, sym, ◌∙◌, inl, inr}
+use Rattle.std.specs.Prelude.{ℕ, ◌+◌, ◌*◌, ◌≤◌, ◌<◌, ◌≡◌, refl, Bool, cond, ◌&&◌, ◌⊎◌, List, [], length, Float}
+use Rattle.std.proofs.Common.{arith, mul-le-mul, mul-one, one-mul, sym, ◌∙◌, inl, inr}
 use Rattle.std.proofs.Math.Path.{ap}
 use Rattle.std.proofs.Math.Bool.{true, false}
 use Rattle.std.proofs.Math.Dec.{leb}

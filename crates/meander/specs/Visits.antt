@@ -2,14 +2,14 @@
 use Rattle.std.specs.Prelude.{ℕ, zero, suc, ◌+◌, ◌<◌, ◌≡◌, refl, Bool, true, false, eqb, get_or}
 use native.Mathlib.Omega.{arith}
 use Rattle.std.proofs.Common.{ap, ◌∙◌}
-use mathlib.Core.List.{List, [], ◌∷◌, map, Memᴰ}
+use mathlib.Core.List.{List, map}
 use Rattle.seqs.specs.Lists.{upto}
 use Rattle.geom.specs.declared.point.P.{P}
 use Rattle.outlines.specs.declared.rule.FillRule.{FillRule}
 use Rattle.meander_rules.specs.declared.Lattice.{Lattice}
 use Rattle.meander_rules.specs.Meander.{points_of, inside_at, link_ok, first_seed, is_free, walk_from, walks_of, free_at_first}
 use Rattle.meander_rules.specs.Reach.{Visited, Reached, before}
-use Rattle.meander_rules.specs.ReachLaws.{reached_visited, reached_on_path, all_visited}
+use Rattle.meander_rules.specs.ReachLaws.{reached_visited, all_visited}
 use Rattle.wander.specs.Walking.{mark_of}
 use Rattle.wander.specs.MarkLaws.{marks_length}
 

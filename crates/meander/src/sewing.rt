@@ -8,7 +8,6 @@ ghost use Rattle.meander_rules.specs.Meander.{points_of, most_points, lines_alon
 ghost use Rattle.wander.specs.Walking.{walks_in, Between};
 ghost use Rattle.meander.specs.StoppedLaws.{Said};
 
-use finding::zero::zero_wholes;
 use meander_rules::Lattice;
 use outlines::FillRule;
 use outlines::heights::{HEIGHTS, heights};
@@ -77,6 +76,48 @@ fn sew(
 }
 
 // What is said on a grid, and left: nothing on one with no point or too many, WORK where w is too short for it.
+fn on_room(
+    corners: &[f64],
+    ends: &[usize],
+    rule: FillRule,
+    g: Lattice,
+    len: f64,
+    seed: u64,
+    out: &mut [f64],
+    stops: &mut [usize],
+    w: &mut [usize],
+) -> Lines
+    requires { Layout corners.now ends.now × (g.columns ≤ 400001) × (g.rows ≤ 400001) }
+    ensures { Said (rings corners.now ends.now) rule g len seed out.old stops.old (length w.old) result out.new stops.new × (length w.new ≡ length w.old) }
+{
+    let n = g.columns * g.rows;
+    if n > 400000 {
+        return Lines {
+            answer: DONE,
+            lines: 0,
+            points: 0,
+        };
+    }
+    if n == 0 {
+        return Lines {
+            answer: DONE,
+            lines: 0,
+            points: 0,
+        };
+    }
+    if w.len() < 8 * n {
+        return Lines {
+            answer: WORK,
+            lines: 0,
+            points: 0,
+        };
+    }
+    let mut h = [0.0f64; HEIGHTS];
+    heights(corners, ends, &mut h);
+    sew(corners, ends, &h, rule, g, len, seed, out, stops, w)
+}
+
+// The same, with w all zero.
 pub fn on_lattice(
     corners: &[f64],
     ends: &[usize],
@@ -91,34 +132,7 @@ pub fn on_lattice(
     requires { Layout corners.now ends.now × (g.columns ≤ 400001) × (g.rows ≤ 400001) }
     ensures { Said (rings corners.now ends.now) rule g len seed out.old stops.old (length w.old) result out.new stops.new × (w.new ≡ replicate (length w.old) 0) }
 {
-    let n = g.columns * g.rows;
-    if n > 400000 {
-        zero_wholes(w);
-        return Lines {
-            answer: DONE,
-            lines: 0,
-            points: 0,
-        };
-    }
-    if n == 0 {
-        zero_wholes(w);
-        return Lines {
-            answer: DONE,
-            lines: 0,
-            points: 0,
-        };
-    }
-    if w.len() < 8 * n {
-        zero_wholes(w);
-        return Lines {
-            answer: WORK,
-            lines: 0,
-            points: 0,
-        };
-    }
-    let mut h = [0.0f64; HEIGHTS];
-    heights(corners, ends, &mut h);
-    let r = sew(corners, ends, &h, rule, g, len, seed, out, stops, w);
-    zero_wholes(w);
-    r
+    let said = on_room(corners, ends, rule, g, len, seed, out, stops, w);
+    w.fill(0);
+    said
 }

@@ -1,6 +1,6 @@
 -- Free points, and how many there are. Assumes nothing.
 use Rattle.std.specs.Prelude.{ℕ, zero, suc, ◌+◌, ◌≤◌, ◌≡◌, refl, true, false, cond, List, [], ◌∷◌, eqb, length, get_or, set}
-use Rattle.std.proofs.Common.{arith, ap, inl, inr, get_or-set_other, eqb-true}
+use Rattle.std.proofs.Common.{arith, inl, inr, get_or-set_other, eqb-true}
 use Rattle.std.proofs.lemmas.Bool.{eqb-false}
 use Rattle.seqs.specs.Tests.{either, clash}
 use Rattle.meander_rules.specs.Meander.{is_free}

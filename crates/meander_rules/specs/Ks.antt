@@ -14,7 +14,7 @@ use Rattle.outlines.specs.Winding.{edge, edges, ring, winding}
 use Rattle.outlines.specs.Inside.{inside, point_inside, steps_inside, segment_inside}
 use Rattle.polyline.specs.Line.{shortest, piece_steps, steps_from, step_ends, piece, pieces_from, pieces, resample_keep_corners}
 use Rattle.patterns_rules.specs.Patterns.{bounds, piece_inside, closed, opened, runs_from, clip_inside}
-use Rattle.meander_rules.specs.Meander.{Order, points_over, lattice_in, lattice_of, place, inside_at, link_ok, first_seed, next_seed, neighbours, swap, shuffle_from, shuffle, is_free, open_way, go_on, go_back, move, turn_from, turn, turns, walk_from, walked, start_at, walks_of, free_at_first, paths_of, smooth_from, smooth, dense_along, lines_along, meander_on, meander}
+use Rattle.meander_rules.specs.Meander.{points_over, lattice_in, lattice_of, place, inside_at, link_ok, first_seed, next_seed, neighbours, swap, shuffle_from, shuffle, is_free, open_way, go_on, go_back, move, turn_from, turn, turns, walk_from, walked, start_at, walks_of, free_at_first, paths_of, smooth_from, smooth, dense_along, lines_along, meander_on, meander}
 
 abbrev pt : ℕ → ℕ → P
 pt x y = point (real (pos x)) (real (pos y))

@@ -1,17 +1,17 @@
 -- Every inside point that can be reached over allowed links from a walk's start is visited by that walk's end, and by the end of all walks every inside point is. Assumes nothing.
-use Rattle.std.specs.Prelude.{ℕ, ◌+◌, ◌*◌, ◌≤◌, ◌<◌, ◌≡◌, refl, Bool, true, false, ◌⊎◌, eqb}
+use Rattle.std.specs.Prelude.{ℕ, ◌*◌, ◌≤◌, ◌<◌, ◌≡◌, refl, Bool, true, ◌⊎◌, eqb}
 use Rattle.std.proofs.Common.{arith, sym, ap, ◌∙◌, eqb-true}
 use Rattle.std.proofs.Math.Logic.{inl, inr}
 use mathlib.Core.List.Memᴰ
-use mathlib.Core.List.{List, [], ◌∷◌, ◌++◌, Memᴰ}
+use mathlib.Core.List.{List, [], ◌∷◌, Memᴰ}
 use Rattle.std.proofs.Math.ListN.{length, set, length-set}
 use Rattle.seqs.specs.Lists.{upto, fold}
 use Rattle.seqs.specs.Upto.{upto_length, upto_at}
-use Rattle.seqs.specs.Tests.{either, clash, refute}
+use Rattle.seqs.specs.Tests.{either, clash}
 use Rattle.meander_rules.specs.declared.Lattice.{Lattice}
-use Rattle.meander_rules.specs.Meander.{Walk, Walks, points_of, is_free, turns, walk_from, walked, start_at, walks_of}
+use Rattle.meander_rules.specs.Meander.{Walk, Walks, points_of, is_free, walk_from, walked, start_at, walks_of}
 use Rattle.meander_rules.specs.Reach.{Inside, Visited, Link, Reached, at_start, over, before}
-use Rattle.meander_rules.specs.FreeLaws.{taken, taken_other, taken_stays, ones, ones_few, ones_taken}
+use Rattle.meander_rules.specs.FreeLaws.{taken, taken_other, taken_stays, ones_few, ones_taken}
 use Rattle.meander_rules.specs.ShuffleLaws.{member}
 use Rattle.meander_rules.specs.TurnLaws.{turns_keep, turns_end}
 

@@ -1,6 +1,6 @@
 -- A shuffled list holds what the list held, and is as long. Assumes nothing.
-use Rattle.std.specs.Prelude.{ℕ, zero, suc, ◌+◌, ◌-◌, ◌%◌, ◌≤◌, ◌<◌, ◌≡◌, refl, true, false, eqb, length, get_or, set}
-use Rattle.std.proofs.Common.{arith, mod-lt, zero-lt-suc, sym, ap, ◌∙◌, inl, inr, eqb-true}
+use Rattle.std.specs.Prelude.{ℕ, zero, suc, ◌+◌, ◌-◌, ◌%◌, ◌<◌, ◌≡◌, refl, eqb, length, get_or, set}
+use Rattle.std.proofs.Common.{arith, mod-lt, sym, ◌∙◌, inl, inr, eqb-true}
 use mathlib.Core.List.{List, [], ◌∷◌, Memᴰ}
 use Rattle.std.proofs.Math.ListN.{length-set}
 use Rattle.std.proofs.Math.Seq.{get_or-set_same, get_or-set_other}

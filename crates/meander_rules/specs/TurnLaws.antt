@@ -1,19 +1,18 @@
 -- A turn of a walk: what it keeps, and that every turn uses up a point or a place of the stack. Assumes nothing.
 use Prim.Native.Nat.{ℕ, zero, suc, ◌+◌, ◌*◌, ◌≤◌}
 use native.Mathlib.Omega.{arith}
-use Rattle.std.specs.Prelude.{◌≡◌, Bool, true, false, ◌&&◌, ◌⊎◌, eqb, length, take, drop, set}
+use Rattle.std.specs.Prelude.{◌≡◌, Bool, true, false, ◌&&◌, length, take, drop, set}
 use Rattle.std.proofs.Math.Path.{refl, sym, ap}
-use Rattle.std.proofs.Common.{◌∙◌, subst, eqb-true}
+use Rattle.std.proofs.Common.{◌∙◌, subst}
 use Rattle.std.proofs.Math.Logic.{inl, inr}
 use mathlib.Core.List.Memᴰ
 use mathlib.Core.List.{List, [], ◌∷◌, ◌++◌, append_assoc, Memᴰ}
 use Rattle.seqs.specs.Lists.{sift, All}
 use Rattle.seqs.specs.Sift.{sift_in, sift_pass}
-use Rattle.seqs.specs.Tests.{either, clash, and_both}
+use Rattle.seqs.specs.Tests.{either, and_both}
 use Rattle.meander_rules.specs.declared.Lattice.{Lattice}
 use Rattle.meander_rules.specs.Meander.{Walk, neighbours, shuffle, is_free, open_way, go_on, go_back, move, turn_from, turn, turns}
-use Rattle.meander_rules.specs.Reach.{Inside, Visited, Link}
-use Rattle.meander_rules.specs.FreeLaws.{taken, taken_other, taken_stays, ones, ones_taken}
+use Rattle.meander_rules.specs.FreeLaws.{ones, ones_taken}
 use Rattle.meander_rules.specs.ShuffleLaws.{shuffle_member}
 
 -- ---- the first of those that pass a test

@@ -3,6 +3,12 @@
 // The grid: where its first point stands, how far apart its points are, and how many there are either way; none with no corners.
 #![tactic(auto)]
 
+ghost use Rattle.std.specs.Prelude.{◌≡◌, ◌<◌};
+ghost use Rattle.meander_rules.specs.Meander.{place};
+
+use geom::P;
+use leaves::of_u64;
+
 #[derive(Clone, Copy)]
 pub struct Lattice {
     pub left: f64,
@@ -10,4 +16,17 @@ pub struct Lattice {
     pub spacing: f64,
     pub columns: usize,
     pub rows: usize,
+}
+
+impl Lattice {
+    // Where grid point k stands.
+    pub fn place(self, k: usize) -> P
+        requires { 0 < self.columns }
+        ensures { result ≡ place self k }
+    {
+        P {
+            x: self.left + of_u64((k % self.columns) as u64) * self.spacing,
+            y: self.top + of_u64((k / self.columns) as u64) * self.spacing,
+        }
+    }
 }

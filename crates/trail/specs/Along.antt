@@ -1,14 +1,13 @@
 -- The turns of the loops: the steps of a piece, the pieces of a path, the paths of all walks; and what the counts say. Assumes nothing.
-use Rattle.std.specs.Prelude.{ℕ, suc, ◌+◌, ◌-◌, ◌*◌, ◌/◌, ◌^◌, ◌≤◌, ◌<◌, ◌≡◌, true, length, drop, get_or, pos, Float}
+use Rattle.std.specs.Prelude.{ℕ, ◌+◌, ◌-◌, ◌*◌, ◌^◌, ◌≤◌, ◌<◌, ◌≡◌, length, drop, get_or, pos, Float}
 use Rattle.std.proofs.Common.{arith, sym, ◌∙◌}
 use Rattle.std.proofs.Math.Path.{refl, ap, subst}
-use mathlib.Core.List.{List, [], ◌∷◌, ◌++◌, append-nil, map}
+use mathlib.Core.List.{List, [], ◌∷◌, ◌++◌}
 use Rattle.std.proofs.Math.ListN.{take}
 use Rattle.std.specs.Float.{binary64}
 use Rattle.std.specs.Float.Ieee.{of_bits, round}
 use Rattle.numbers.specs.Num.{real, literal}
 use Rattle.numbers.specs.Order.{larger}
-use Rattle.seqs.specs.Lists.{each}
 use Rattle.seqs.specs.Front.{next, none}
 use Rattle.seqs.specs.Slices.{Wrote}
 use Rattle.seqs.specs.Wrote.{wrote_none}
@@ -21,15 +20,11 @@ use Rattle.outlines.specs.declared.rule.FillRule.{FillRule}
 use Rattle.outlines.specs.Inside.{point_inside}
 use Rattle.polyline.specs.Line.{piece_steps, steps_from, step_ends, piece, pieces_from, pieces, resample_keep_corners}
 use Rattle.polyline.proofs.LineLaws.{steps_next, steps_none, ends_last}
-use Rattle.rules.specs.Calls.{sewn_points, sewn_ends}
-use Rattle.rules.specs.CallLaws.{ends_length}
-use Rattle.patterns_rules.specs.declared.Count.{Count}
 use Rattle.meander_rules.specs.declared.Lattice.{Lattice}
-use Rattle.meander_rules.specs.Meander.{place, smooth_from, smooth, dense_along, lines_along}
+use Rattle.meander_rules.specs.Meander.{place, smooth_from, smooth, dense_along}
 use Rattle.trail.specs.declared.pen.Pen.{Pen}
-use Rattle.trail.specs.Trail.{held, Done, nothing, both, run, begin, on_to, finish, clip_line, along_path, ahead, Sewed}
-use Rattle.trail.specs.Parts.{held_exact, held_back, held_few, held_most, held_none, sewed_both, sewed_none, Going, going_start, going_at, going_on, going_next, going_end}
-use Rattle.trail.specs.Runs.{paths_points, paths_ends, paths_few}
+use Rattle.trail.specs.Trail.{Done, both, run, begin, on_to, finish, clip_line, along_path, ahead, Sewed}
+use Rattle.trail.specs.Parts.{held_few, held_none, sewed_both, sewed_none, Going, going_at, going_on, going_next, going_end}
 
 -- the patterns that the code's 0.3 and 0.7 are read as
 pub three_tenths : literal 3 10 ≡ of_bits binary64 0x3fd3333333333333

@@ -1,5 +1,5 @@
 -- Parts of the way one after the other, and what the code does to its slices on them. Assumes nothing.
-use Rattle.std.specs.Prelude.{ℕ, ◌+◌, ◌*◌, ◌^◌, ◌≤◌, ◌<◌, ◌≡◌, length, take, drop, Float}
+use Rattle.std.specs.Prelude.{ℕ, ◌+◌, ◌-◌, ◌*◌, ◌^◌, min, ◌≤◌, ◌<◌, ◌≡◌, length, take, drop, Float}
 use Rattle.std.proofs.Common.{arith, sym, ◌∙◌, subst, length-append, length-take-le, take_at}
 use Rattle.std.proofs.Math.Path.{refl, ap}
 use mathlib.Core.List.{List, [], ◌∷◌, ◌++◌, append_assoc, append-nil}
@@ -9,7 +9,6 @@ use Rattle.seqs.specs.Capped.{capped_cases, capped_still, capped_on}
 use Rattle.seqs.specs.Reads.{take_on}
 use Rattle.seqs.specs.Wrote.{head_length, run_start, run_at, run_step, run_end, wrote_none, wrote_full}
 use Rattle.seqs.specs.Put.{put_length}
-use Rattle.geom.specs.declared.point.P.{P}
 use Rattle.geom.specs.Sewing.{flat}
 use Rattle.geom.specs.SewingLaws.{flat_length, flat_append}
 use Rattle.trail.specs.declared.pen.Pen.{Pen}
@@ -38,6 +37,11 @@ module _ (n m : ℕ) where
   pub held_most : held n m ≤ n + m
   unfolding held
   held_most = elim (capped_cases most (n + m)) [ inl w ↦ omega (arith, w) | inr w ↦ omega (arith, w) ]
+
+-- the library's sum that stops
+pub held_min : (n m : ℕ) → min (n + m) (2 ^ 64 - 1) ≡ held n m
+unfolding held
+held_min n m = elim (capped_cases most (n + m)) [ inl w ↦ omega (arith, w) | inr w ↦ omega (arith, w) ]
 
 pub held_none : (n : ℕ) → n < 2 ^ 64 → n ≡ held n 0
 held_none n h = let e : n ≡ n + 0 = omega arith in e ∙ sym (held_exact n 0 (omega arith))

@@ -12,7 +12,6 @@ use Rattle.seqs.specs.Lists.{each}
 use Rattle.geom.specs.declared.point.P.{P}
 use Rattle.outlines.specs.declared.rule.FillRule.{FillRule}
 use Rattle.rules.specs.Calls.{sewn_points, sewn_ends}
-use Rattle.rules.specs.CallLaws.{ends_length}
 use Rattle.patterns_rules.specs.Patterns.{piece_inside, closed, opened, runs_from, clip_inside}
 use Rattle.patterns_rules.specs.LineLaws.{points_append, ends_append}
 use Rattle.clip.specs.Clip.{added, ended, points_from, ends_from}
@@ -20,7 +19,7 @@ use Rattle.clip.specs.ClipLaws.{points_are, ends_are}
 use Rattle.meander_rules.specs.declared.Lattice.{Lattice}
 use Rattle.meander_rules.specs.Meander.{dense_along, lines_along}
 use Rattle.trail.specs.declared.pen.Pen.{Pen}
-use Rattle.trail.specs.Trail.{most, held, Done, nothing, both, run, begin, on_to, finish, clip_line, along_path}
+use Rattle.trail.specs.Trail.{held, nothing, both, run, begin, on_to, finish, clip_line, along_path}
 use Rattle.trail.specs.Parts.{held_exact, held_few, held_none, held_on}
 
 module _ (rings : List (List P)) (rule : FillRule) where

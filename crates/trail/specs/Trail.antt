@@ -1,5 +1,5 @@
 -- The stitches along the walks of a meander, point by point: what each point adds to the points and to the ends, where no line stands anywhere as a whole. Definitions only.
-use Rattle.std.specs.Prelude.{ℕ, ◌+◌, ◌-◌, ◌*◌, ◌^◌, ◌<◌, ◌≡◌, Bool, false, List, [], ◌∷◌, ◌++◌, map, length, drop, Float}
+use Rattle.std.specs.Prelude.{ℕ, ◌+◌, ◌-◌, ◌*◌, ◌^◌, ◌<◌, ◌≡◌, false, List, [], ◌∷◌, ◌++◌, map, length, drop, Float}
 use Rattle.seqs.specs.Lists.{each}
 use Rattle.seqs.specs.Slices.{capped, Wrote}
 use Rattle.geom.specs.declared.point.P.{P}

@@ -13,7 +13,6 @@ use Rattle.outlines.specs.declared.rule.FillRule.{FillRule}
 use Rattle.rules.specs.Calls.{sewn_points, sewn_ends}
 use Rattle.rules.specs.CallLaws.{ends_length}
 use Rattle.patterns_rules.specs.Answers.{left_points, left_ends}
-use Rattle.patterns_rules.specs.declared.Count.{Count}
 use Rattle.meander_rules.specs.declared.Lattice.{Lattice}
 use Rattle.meander_rules.specs.Meander.{lines_along}
 use Rattle.trail.specs.declared.pen.Pen.{Pen}

@@ -50,9 +50,7 @@ fn over_paths(
 {
     let mut pen = s;
     let mut a = 0;
-    let mut k = 0;
-    while k < breaks.len() {
-        let e = breaks[k];
+    for &e in breaks {
         pen = over_path(
             out,
             stops,
@@ -66,7 +64,6 @@ fn over_paths(
             pen,
         );
         a = e;
-        k += 1;
     }
     pen
 }

@@ -10,22 +10,10 @@ ghost use Rattle.trail.specs.Trail.{run, on_to, along_path, ahead, Sewed};
 use crate::pen::{Pen, begin, finish, on_to};
 use geom::P;
 use geom::steps::along;
-use leaves::{larger, of_u64};
+use leaves::larger;
 use meander_rules::Lattice;
 use outlines::FillRule;
 use polyline::piece_steps;
-
-// Where grid point k stands.
-fn place(g: Lattice, k: usize) -> P
-    requires { 0 < g.columns }
-    ensures { result ≡ place g k }
-{
-    let columns = g.columns;
-    P {
-        x: g.left + of_u64((k % columns) as u64) * g.spacing,
-        y: g.top + of_u64((k / columns) as u64) * g.spacing,
-    }
-}
 
 // The stitches of the piece from a to b.
 fn over_piece(
@@ -48,10 +36,8 @@ fn over_piece(
         return s;
     }
     let mut pen = s;
-    let mut i: u64 = 1;
-    while i < n {
+    for i in 1..n {
         pen = on_to(out, stops, corners, ends, h, rule, along(a, b, n, i), pen);
-        i += 1;
     }
     on_to(out, stops, corners, ends, h, rule, b, pen)
 }
@@ -72,19 +58,17 @@ fn over_steps(
     requires { Measured corners.now ends.now h.now × (0 < g.columns) × (0 < length path.now) × (s.inside ≡ point_inside (rings corners.now ends.now) rule s.at) }
     ensures { Sewed (run (on_to (rings corners.now ends.now) rule) (ahead g len path.now (place g (get_or path.now 0 0)) (place g (get_or path.now 0 0)) 1) s) s result out.old out.new stops.old stops.new }
 {
-    let mut a = place(g, path[0]);
+    let mut a = g.place(path[0]);
     let mut c = a;
     let mut pen = s;
-    let mut k = 1;
-    while k < path.len() {
-        let b = place(g, path[k]);
+    for &k in &path[1..] {
+        let b = g.place(k);
         let l = a.lerp(b, 0.3);
         let r = a.lerp(b, 0.7);
         let half = over_piece(out, stops, corners, ends, h, rule, c, l, len, pen);
         pen = over_piece(out, stops, corners, ends, h, rule, l, r, len, half);
         c = r;
         a = b;
-        k += 1;
     }
     over_piece(out, stops, corners, ends, h, rule, c, a, len, pen)
 }
@@ -108,7 +92,7 @@ pub fn over_path(
     if path.len() < 2 {
         return s;
     }
-    let p = place(g, path[0]);
+    let p = g.place(path[0]);
     let begun = begin(corners, ends, h, rule, p, s);
     let step = larger(len, 5.0);
     let gone = over_steps(out, stops, path, g, step, corners, ends, h, rule, begun);

@@ -23,21 +23,11 @@ pub struct Pen {
     pub points: usize,
 }
 
-// A count and `more`, or the largest number.
-fn held(n: usize, more: usize) -> usize
-    ensures { result ≡ held n more }
-{
-    if more > 18446744073709551615 - n {
-        return 18446744073709551615;
-    }
-    n + more
-}
-
 // The points that the piece from p to q adds to the n before, where out has room for them; answers how many there are then.
 fn add(out: &mut [f64], n: usize, kept: bool, on: bool, p: P, q: P) -> usize
     ensures { Wrote out.old out.new (2 * n) (flat (added kept on p q)) × (result ≡ held n (length (added kept on p q))) }
 {
-    let to = held(n, added(kept, on, p, q));
+    let to = n.saturating_add(added(kept, on, p, q));
     if to > out.len() / 2 {
         return to;
     }
@@ -49,7 +39,7 @@ fn add(out: &mut [f64], n: usize, kept: bool, on: bool, p: P, q: P) -> usize
 fn end(stops: &mut [usize], s: usize, kept: bool, on: bool, n: usize) -> usize
     ensures { Wrote stops.old stops.new s (ended kept on n) × (result ≡ held s (length (ended kept on n))) }
 {
-    let to = held(s, ended(kept, on, n));
+    let to = s.saturating_add(ended(kept, on, n));
     if s >= stops.len() {
         return to;
     }
@@ -66,8 +56,7 @@ pub fn begin(corners: &[f64], ends: &[usize], h: &[f64], rule: FillRule, p: P, s
         at: p,
         inside: point_inside_by(corners, ends, h, rule, p),
         on: false,
-        lines: s.lines,
-        points: s.points,
+        ..s
     }
 }
 
@@ -96,8 +85,8 @@ pub fn on_to(
         at: q,
         inside: is,
         on: kept,
-        lines: lines,
-        points: points,
+        lines,
+        points,
     }
 }
 
@@ -105,13 +94,10 @@ pub fn on_to(
 pub fn finish(stops: &mut [usize], s: Pen) -> Pen
     ensures { (result ≡ (finish s).pen) × Wrote stops.old stops.new s.lines (finish s).ends }
 {
-    let p = s.at;
     let lines = end(stops, s.lines, false, s.on, s.points);
     Pen {
-        at: p,
-        inside: s.inside,
         on: false,
-        lines: lines,
-        points: s.points,
+        lines,
+        ..s
     }
 }

@@ -2,26 +2,12 @@
 ghost use Rattle.std.specs.Prelude.{◌≡◌, ◌*◌, ◌<◌, ◌≤◌, length, drop, ◌++◌};
 ghost use Rattle.geom.specs.Outline.{rings};
 ghost use Rattle.outlines.specs.Heights.{Measured};
-ghost use Rattle.meander_rules.specs.Meander.{place, inside_at, link_ok, free_at_first};
+ghost use Rattle.meander_rules.specs.Meander.{inside_at, link_ok, free_at_first};
 ghost use Rattle.wander.specs.Walking.{mark_of};
 
-use geom::P;
-use leaves::of_u64;
 use meander_rules::Lattice;
 use outlines::FillRule;
 use outlines::inside::{point_inside_by, segment_inside_by};
-
-// Where grid point k stands.
-pub fn place(g: Lattice, k: usize) -> P
-    requires { 0 < g.columns }
-    ensures { result ≡ place g k }
-{
-    let columns = g.columns;
-    P {
-        x: g.left + of_u64((k % columns) as u64) * g.spacing,
-        y: g.top + of_u64((k / columns) as u64) * g.spacing,
-    }
-}
 
 // Whether the way from point a to point b stays inside.
 pub fn link_ok(
@@ -36,7 +22,7 @@ pub fn link_ok(
     requires { Measured corners.now ends.now h.now × (0 < g.columns) }
     ensures { result ≡ link_ok (rings corners.now ends.now) rule g a b }
 {
-    segment_inside_by(corners, ends, h, rule, place(g, a), place(g, b), 2.0)
+    segment_inside_by(corners, ends, h, rule, g.place(a), g.place(b), 2.0)
 }
 
 // Whether point k is inside, as a mark.
@@ -51,7 +37,7 @@ fn mark_of(
     requires { Measured corners.now ends.now h.now × (0 < g.columns) }
     ensures { result ≡ mark_of (inside_at (rings corners.now ends.now) rule g k) }
 {
-    usize::from(point_inside_by(corners, ends, h, rule, place(g, k)))
+    usize::from(point_inside_by(corners, ends, h, rule, g.place(k)))
 }
 
 // The marks of all points to the front of w: all that are inside are free.

@@ -1,6 +1,5 @@
 -- `meander` meets its contract: each answer follows from the tests on the way to it. Assumes nothing.
-use mathlib.Core.Path.{◌≡◌, refl}
-use mathlib.Core.Bool.{false, ◌&&◌}
+use mathlib.Core.Path.{refl}
 use lib.ListN.{length}
 use Rattle.seqs.specs.Tests.{passed, failed}
 use Rattle.geom.specs.Outline.{rings}
@@ -8,7 +7,6 @@ use Rattle.limits.specs.LimitsLaws.{outline_layout}
 use Rattle.patterns_rules.specs.Answers.{said_lines, left_points, left_ends}
 use Rattle.meander_rules.specs.Answers.{meander_refusal, meander_said, meander_points, meander_ends, meander_wholes}
 use Rattle.meander.specs.StoppedLaws.{lines_are, need_is, few_columns, few_rows, answer_works}
-use borrow.Author.Rules.{rules}
 use mathlib.Core.Bool.{not}
 use mathlib.Core.Path.{ap}
 use Rattle.meander.proofs.meander.Goals as goal

@@ -2,7 +2,6 @@
 use Rattle.geom.specs.Outline.{rings, cut}
 use Rattle.trail.specs.Trail.{trails}
 use Rattle.trail.specs.Whole.{counts}
-use borrow.Author.Rules.{rules}
 use Rattle.trail.proofs.count.Goals as goal
 
 pub over_paths-pen-requires : goal.over_paths-pen-requires

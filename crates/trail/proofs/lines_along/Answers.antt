@@ -7,10 +7,9 @@ use Rattle.geom.specs.Outline.{rings, cut}
 use Rattle.rules.specs.Calls.{sewn_points}
 use Rattle.patterns_rules.specs.Answers.{said_lines, left_points, left_ends}
 use Rattle.patterns_rules.specs.LineLaws.{no_room_points, no_room_lines, room}
-use Rattle.trail.specs.Trail.{held, trails}
+use Rattle.trail.specs.Trail.{trails}
 use Rattle.trail.specs.Parts.{held_most, held_back}
 use Rattle.trail.specs.Whole.{points_left_lem, ends_left}
-use borrow.Author.Rules.{rules}
 use Rattle.trail.proofs.lines_along.Goals as goal
 
 pub count-c-requires : goal.count-c-requires

@@ -1,7 +1,6 @@
 -- `lattice_of` meets its contract. Assumes nothing.
 use mathlib.Core.Path.{sym, ◌∙◌}
 use Rattle.meander.specs.StoppedLaws.{lattice_some, lattice_none}
-use borrow.Author.Rules.{rules}
 use Rattle.meander.proofs.grid.lattice_of.Goals as goal
 
 pub returns-then-is_finite : goal.returns-then-is_finite

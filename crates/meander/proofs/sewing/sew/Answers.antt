@@ -1,12 +1,11 @@
 -- `sew` meets its contract. Assumes nothing.
 use native.Mathlib.Omega.{arith}
-use mathlib.Core.Path.{◌≡◌, ◌∙◌}
+use mathlib.Core.Path.{◌∙◌}
 use Prim.Native.Nat.{◌≤◌}
 use lib.ListN.{length}
 use Rattle.geom.specs.Outline.{rings}
 use Rattle.meander_rules.specs.Meander.{points_of}
 use Rattle.meander.specs.PathLaws.{marked_length, lines_walked}
-use borrow.Author.Rules.{rules}
 use Rattle.meander.proofs.sewing.sew.Goals as goal
 
 pub mark-requires : goal.mark-requires

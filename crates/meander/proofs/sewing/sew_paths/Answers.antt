@@ -1,7 +1,6 @@
 -- `sew_paths` meets its contract. Assumes nothing.
 use Rattle.geom.specs.Outline.{rings}
 use Rattle.meander.specs.PathLaws.{rise_part, trails_are}
-use borrow.Author.Rules.{rules}
 use Rattle.meander.proofs.sewing.sew_paths.Goals as goal
 
 pub lines_along-requires : goal.lines_along-requires

@@ -1,5 +1,4 @@
 -- `over_path` meets its contract: the line begins at the path's first point, and ends. Assumes nothing.
-use mathlib.Core.Path.{◌∙◌}
 use native.Mathlib.Omega.{arith}
 use lib.Ieee.{of_bits, of_int, round}
 use Rattle.geom.specs.Outline.{rings}

@@ -1,12 +1,9 @@
 -- `over_piece` meets its contract: the ends of the steps from i on are to come, and then the corner. Assumes nothing.
-use mathlib.Core.Path.{◌≡◌, sym, ◌∙◌}
-use mathlib.Core.List.{[], ◌∷◌, ◌++◌}
-use Prim.Native.Nat.{◌-◌, ◌≤◌}
+use mathlib.Core.Path.{sym, ◌∙◌}
 use Rattle.geom.specs.Outline.{rings}
-use Rattle.outlines.specs.Inside.{point_inside}
-use Rattle.polyline.specs.Line.{steps_from, piece}
+use Rattle.polyline.specs.Line.{piece}
 use Rattle.trail.specs.Trail.{on_to}
-use Rattle.trail.specs.Parts.{Going, going_start, going_at}
+use Rattle.trail.specs.Parts.{going_start, going_at}
 use Rattle.trail.specs.Along.{on_inside, step_on, step_last, piece_is, piece_none}
 use borrow.Author.Rules.{rules}
 use Rattle.trail.proofs.path.over_piece.Goals as goal
@@ -20,30 +17,30 @@ pub loop-i-init : goal.loop-i-init
 loop-i-init c =
     let a = c.args in
     let one = on_to (rings a.corners.now a.ends.now) a.rule in
-    (search rules, search rules, going_at one (sym (piece_is a.a a.b a.len c.piece_steps-n.ensures (search rules))) (going_start one a.s a.out.now a.stops.now (piece a.a a.b a.len) (search rules) (search rules) (search rules) (search rules)), c.requires.1)
+    (going_at one (sym (piece_is a.a a.b a.len c.piece_steps-n.ensures (search rules))) (going_start one a.s a.out.now a.stops.now (piece a.a a.b a.len) (search rules) (search rules) (search rules) (search rules)), c.requires.1)
 
 pub on_to-pen-requires : goal.on_to-pen-requires
-on_to-pen-requires c = (c.requires.0, c.loop-i.invariant.3)
+on_to-pen-requires c = (c.requires.0, c.loop-i.invariant.1)
 
 pub loop-i-preserved : goal.loop-i-preserved
 loop-i-preserved c =
     let a = c.args in
     let l = c.loop-i in
     let r = rings a.corners.now a.ends.now in
-    (search rules, search rules, step_on r a.rule a.a a.b c.piece_steps-n.result l.i l.invariant.2 (search rules) c.along.ensures c.on_to-pen.ensures, on_inside r a.rule c.along.result l.pen c.on_to-pen.ensures.pen)
+    (step_on r a.rule a.a a.b c.piece_steps-n.result l.i l.invariant.0 (search rules) c.along.ensures c.on_to-pen.ensures, on_inside r a.rule c.along.result l.pen c.on_to-pen.ensures.pen)
 
 pub on_to-requires : goal.on_to-requires
-on_to-requires c = (c.requires.0, c.loop-i.invariant.3)
+on_to-requires c = (c.requires.0, c.loop-i.invariant.1)
 
 pub shape_of-out : goal.shape_of-out
-shape_of-out c = c.on_to.ensures.points.size ∙ c.loop-i.invariant.2.sewed.points.size
+shape_of-out c = c.on_to.ensures.points.size ∙ c.loop-i.invariant.0.sewed.points.size
 
 pub shape_of-stops : goal.shape_of-stops
-shape_of-stops c = c.on_to.ensures.stops.size ∙ c.loop-i.invariant.2.sewed.stops.size
+shape_of-stops c = c.on_to.ensures.stops.size ∙ c.loop-i.invariant.0.sewed.stops.size
 
 pub returns : goal.returns
 returns c =
     let a = c.args in
     let l = c.loop-i in
     let r = rings a.corners.now a.ends.now in
-    (step_last r a.rule a.a a.b c.piece_steps-n.result l.i l.invariant.2 (search rules) c.on_to.ensures, on_inside r a.rule a.b l.pen c.on_to.ensures.pen)
+    (step_last r a.rule a.a a.b c.piece_steps-n.result l.i l.invariant.0 (search rules) c.on_to.ensures, on_inside r a.rule a.b l.pen c.on_to.ensures.pen)

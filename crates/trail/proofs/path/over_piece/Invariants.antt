@@ -1,18 +1,13 @@
 -- `over_piece` meets its contract: the ends of the steps from i on are to come, and then the corner. Assumes nothing.
-use mathlib.Core.Path.{◌≡◌, sym, ◌∙◌}
+use mathlib.Core.Path.{◌≡◌}
 use mathlib.Core.List.{[], ◌∷◌, ◌++◌}
-use Prim.Native.Nat.{◌-◌, ◌≤◌}
+use Prim.Native.Nat.{◌-◌}
 use Rattle.geom.specs.Outline.{rings}
 use Rattle.outlines.specs.Inside.{point_inside}
 use Rattle.polyline.specs.Line.{steps_from, piece}
 use Rattle.trail.specs.Trail.{on_to}
-use Rattle.trail.specs.Parts.{Going, going_start, going_at}
-use Rattle.trail.specs.Along.{on_inside, step_on, step_last, piece_is, piece_none}
-use borrow.Author.Rules.{rules}
+use Rattle.trail.specs.Parts.{Going}
 use Rattle.trail.proofs.path.over_piece.Given as goal
 
 abbrev pub invariant-loop-i : goal.invariant-loop-i
-invariant-loop-i l = (1 ≤ l.i) × (l.i ≤ l.n) × Going (on_to (rings l.corners l.ends) l.rule) l.initial.pen l.pen l.initial.out l.out l.initial.stops l.stops (steps_from l.a l.b l.n l.i (l.n - l.i) ++ (l.b ∷ [])) (piece l.a l.b l.len) × (l.pen.inside ≡ point_inside (rings l.corners l.ends) l.rule l.pen.at)
-
-abbrev pub decreases-loop-i : goal.decreases-loop-i
-decreases-loop-i l = l.n - l.i
+invariant-loop-i l = Going (on_to (rings l.corners l.ends) l.rule) l.initial.pen l.pen l.initial.out l.out l.initial.stops l.stops (steps_from l.a l.b l.n l.i (l.n - l.i) ++ (l.b ∷ [])) (piece l.a l.b l.len) × (l.pen.inside ≡ point_inside (rings l.corners l.ends) l.rule l.pen.at)

@@ -1,20 +1,13 @@
 -- `over_steps` meets its contract: the points ahead of c are to come, where the path's point before k stands at a. Assumes nothing.
-use mathlib.Core.Path.{◌≡◌, sym, ap, ◌∙◌}
-use Prim.Native.Nat.{◌-◌, ◌≤◌}
-use native.Mathlib.Omega.{arith}
-use lib.ListN.{length, get_or}
-use Rattle.geom.specs.Point.{lerp}
+use mathlib.Core.Path.{◌≡◌}
+use Prim.Native.Nat.{◌+◌}
+use lib.ListN.{get_or}
 use Rattle.geom.specs.Outline.{rings}
 use Rattle.outlines.specs.Inside.{point_inside}
 use Rattle.meander_rules.specs.Meander.{place}
 use Rattle.trail.specs.Trail.{on_to, ahead}
-use Rattle.trail.specs.Parts.{Going, going_start}
-use Rattle.trail.specs.Along.{three_tenths, seven_tenths, turn_on, turn_last}
-use borrow.Author.Rules.{rules}
+use Rattle.trail.specs.Parts.{Going}
 use Rattle.trail.proofs.path.over_steps.Given as goal
 
 abbrev pub invariant-loop-k : goal.invariant-loop-k
-invariant-loop-k l = (1 ≤ l.k) × (l.k ≤ length l.path) × Going (on_to (rings l.corners l.ends) l.rule) l.initial.pen l.pen l.initial.out l.out l.initial.stops l.stops (ahead l.g l.len l.path l.c l.a l.k) (ahead l.g l.len l.path (place l.g (get_or l.path 0 0)) (place l.g (get_or l.path 0 0)) 1) × (l.pen.inside ≡ point_inside (rings l.corners l.ends) l.rule l.pen.at)
-
-abbrev pub decreases-loop-k : goal.decreases-loop-k
-decreases-loop-k l = length l.path - l.k
+invariant-loop-k l = Going (on_to (rings l.corners l.ends) l.rule) l.initial.pen l.pen l.initial.out l.out l.initial.stops l.stops (ahead l.g l.len l.path l.c l.a (l.k-index + 1)) (ahead l.g l.len l.path (place l.g (get_or l.path 0 0)) (place l.g (get_or l.path 0 0)) 1) × (l.pen.inside ≡ point_inside (rings l.corners l.ends) l.rule l.pen.at)

@@ -1,6 +1,5 @@
 -- `begin` meets its contract. Assumes nothing.
 use Rattle.trail.specs.Trail.{begin}
-use borrow.Author.Rules.{rules}
 use Rattle.trail.proofs.pen.begin.Goals as goal
 
 pub returns : goal.returns

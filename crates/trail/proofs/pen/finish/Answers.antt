@@ -1,6 +1,5 @@
 -- `finish` meets its contract. Assumes nothing.
 use Rattle.trail.specs.Trail.{finish}
-use borrow.Author.Rules.{rules}
 use Rattle.trail.proofs.pen.finish.Goals as goal
 
 pub returns : goal.returns

@@ -1,6 +1,5 @@
 -- `on_to` meets its contract. Assumes nothing.
 use Rattle.trail.specs.Trail.{on_to}
-use borrow.Author.Rules.{rules}
 use Rattle.trail.proofs.pen.on_to.Goals as goal
 
 pub returns : goal.returns

@@ -1,7 +1,6 @@
 -- `place` meets its contract. Assumes nothing.
 use Rattle.meander_rules.specs.Meander.{place}
-use borrow.Author.Rules.{rules}
-use Rattle.trail.proofs.path.place.Goals as goal
+use Rattle.meander_rules.proofs.Lattice.place.Goals as goal
 
 pub returns : goal.returns
 unfolding place
