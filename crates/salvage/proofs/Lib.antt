@@ -1,3 +1,4 @@
 pub mod Turns
+pub mod Chains
 pub mod Rings
 pub mod ByMarks

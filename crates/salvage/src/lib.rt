@@ -11,7 +11,7 @@ pub mod ring;
 pub mod writing;
 
 use crate::outline::mark_outline;
-use crate::writing::{count_kept, put_corners, put_ends, put_places, put_reasons};
+use crate::writing::{count_kept, put_corners, put_dropped, put_ends};
 use limits::{MOST_CORNERS, good_outline};
 use refusal::{DONE, LAYOUT, ROOM};
 
@@ -36,16 +36,7 @@ fn has_room(
     requires { kept ≤ 1024 }
     ensures { result ≡ (leb (2 * kept) corners && leb rings ends && leb dropped places && leb dropped reasons) }
 {
-    if 2 * kept > corners {
-        return false;
-    }
-    if rings > ends {
-        return false;
-    }
-    if dropped > places {
-        return false;
-    }
-    dropped <= reasons
+    2 * kept <= corners && rings <= ends && dropped <= places && dropped <= reasons
 }
 
 // By the marks: ROOM is decided before anything is written.
@@ -80,8 +71,7 @@ fn written(
     }
     put_corners(corners, marks, keep);
     put_ends(ends, marks, stops);
-    put_places(marks, places);
-    put_reasons(marks, reasons);
+    put_dropped(marks, places, reasons);
     Salvaged {
         answer: DONE,
         corners: kept as u64,

@@ -30,22 +30,17 @@ pub enum Last {
 }
 
 // Equal in bits: -0 and +0 are not.
+#[tactic(auto, unfolding(crate::specs::Ring::same))]
 fn same(p: P, q: P) -> bool
     ensures { result ≡ same p q }
 {
-    if to_bits(p.x) == to_bits(q.x) {
-        return to_bits(p.y) == to_bits(q.y);
-    }
-    false
+    to_bits(p.x) == to_bits(q.x) && to_bits(p.y) == to_bits(q.y)
 }
 
 fn finite_point(p: P) -> bool
     ensures { result ≡ finite_point p }
 {
-    if is_finite(p.x) {
-        return is_finite(p.y);
-    }
-    false
+    is_finite(p.x) && is_finite(p.y)
 }
 
 fn repeats(last: Last, p: P) -> bool
@@ -87,13 +82,11 @@ fn mark_strays(ring: &[f64], marks: &mut [usize])
     ensures { marks.new ≡ strays Last.Nothing (points ring.now) }
 {
     let mut last = Last::Nothing;
-    let mut i = 0;
-    while i < marks.len() {
+    for i in 0..marks.len() {
         let p = corner(ring, 2 * i);
         let m = stray(last, p);
         marks[i] = m;
         last = after(last, m, p);
-        i += 1;
     }
 }
 
@@ -101,29 +94,14 @@ fn mark_strays(ring: &[f64], marks: &mut [usize])
 fn first_kept(marks: &[usize]) -> usize
     ensures { result ≡ first_kept marks.now }
 {
-    let mut i = 0;
-    while i < marks.len() {
-        if marks[i] == KEPT {
-            return i;
-        }
-        i += 1;
-    }
-    i
+    marks.iter().position(|m| *m == KEPT).unwrap_or(marks.len())
 }
 
 // The place of the last that is kept; with none, 0.
 fn last_kept(marks: &[usize]) -> usize
     ensures { result ≡ last_kept 0 0 marks.now }
 {
-    let mut l = 0;
-    let mut i = 0;
-    while i < marks.len() {
-        if marks[i] == KEPT {
-            l = i;
-        }
-        i += 1;
-    }
-    l
+    marks.iter().rposition(|m| *m == KEPT).unwrap_or(0)
 }
 
 // Of two or more left, a last corner equal to the first.
@@ -153,10 +131,8 @@ fn few(m: usize) -> usize
 fn mark_all(marks: &mut [usize])
     ensures { marks.new ≡ map few marks.old }
 {
-    let mut i = 0;
-    while i < marks.len() {
-        marks[i] = few(marks[i]);
-        i += 1;
+    for m in marks.iter_mut() {
+        *m = few(*m);
     }
 }
 

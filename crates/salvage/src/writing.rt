@@ -13,15 +13,7 @@ use geom::sewing::{corner, put_point};
 pub fn count_kept(marks: &[usize]) -> usize
     ensures { result ≡ length (sift kept marks.now) }
 {
-    let mut n = 0;
-    let mut i = 0;
-    while i < marks.len() {
-        if marks[i] == KEPT {
-            n += 1;
-        }
-        i += 1;
-    }
-    n
+    marks.iter().filter(|m| **m == KEPT).count()
 }
 
 pub fn put_corners(corners: &[f64], marks: &[usize], out: &mut [f64])
@@ -29,15 +21,11 @@ pub fn put_corners(corners: &[f64], marks: &[usize], out: &mut [f64])
     ensures { out.new ≡ flat (left marks.now (points corners.now)) ++ drop (length (flat (left marks.now (points corners.now)))) out.old }
 {
     let mut k = 0;
-    let mut i = 0;
-    while i < marks.len() {
-        if marks[i] != KEPT {
-            i += 1;
-            continue;
+    for (i, m) in marks.iter().enumerate() {
+        if *m == KEPT {
+            put_point(out, k, corner(corners, 2 * i));
+            k += 2;
         }
-        put_point(out, k, corner(corners, 2 * i));
-        k += 2;
-        i += 1;
     }
 }
 
@@ -58,37 +46,18 @@ pub fn put_ends(ends: &[usize], marks: &[usize], out: &mut [usize])
     }
 }
 
-pub fn put_places(marks: &[usize], out: &mut [usize])
-    requires { length (dropped_places 0 marks.now) ≤ length out.old }
-    ensures { out.new ≡ dropped_places 0 marks.now ++ drop (length (dropped_places 0 marks.now)) out.old }
+// The place of each dropped corner, and why it was dropped.
+pub fn put_dropped(marks: &[usize], places: &mut [usize], reasons: &mut [usize])
+    requires { (length (dropped_places 0 marks.now) ≤ length places.old) × (length (dropped_reasons marks.now) ≤ length reasons.old) }
+    ensures places_after { places.new ≡ dropped_places 0 marks.now ++ drop (length (dropped_places 0 marks.now)) places.old }
+    ensures reasons_after { reasons.new ≡ dropped_reasons marks.now ++ drop (length (dropped_reasons marks.now)) reasons.old }
 {
     let mut k = 0;
-    let mut i = 0;
-    while i < marks.len() {
-        if marks[i] == KEPT {
-            i += 1;
-            continue;
+    for (i, m) in marks.iter().enumerate() {
+        if *m != KEPT {
+            places[k] = i;
+            reasons[k] = *m;
+            k += 1;
         }
-        out[k] = i;
-        k += 1;
-        i += 1;
-    }
-}
-
-pub fn put_reasons(marks: &[usize], out: &mut [usize])
-    requires { length (dropped_reasons marks.now) ≤ length out.old }
-    ensures { out.new ≡ dropped_reasons marks.now ++ drop (length (dropped_reasons marks.now)) out.old }
-{
-    let mut k = 0;
-    let mut i = 0;
-    while i < marks.len() {
-        let m = marks[i];
-        if m == KEPT {
-            i += 1;
-            continue;
-        }
-        out[k] = m;
-        k += 1;
-        i += 1;
     }
 }

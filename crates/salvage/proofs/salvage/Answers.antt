@@ -9,7 +9,6 @@ use Rattle.seqs.specs.Parts.{head_is}
 use Rattle.limits.specs.LimitsLaws.{outline_layout}
 use Rattle.salvage.specs.Salvage.{outcome_by, salvage_answer, salvage_outcome}
 use Rattle.salvage.specs.OutlineLaws.{few_corners, outline_marks}
-use borrow.Author.Rules.{rules}
 use mathlib.Core.Bool.{not}
 use Rattle.salvage.proofs.salvage.Goals as goal
 

@@ -9,7 +9,6 @@ use Rattle.salvage.specs.Ring.{kept}
 use Rattle.salvage.specs.Salvage.{outcome_by}
 use Rattle.salvage.specs.OutlineLaws.{room_all}
 use Rattle.salvage.proofs.ByMarks.{sized, rise_marks, count_few, fits_by, corners_room, places_room, reasons_room, all_written}
-use borrow.Author.Rules.{rules}
 use mathlib.Core.Bool.{not}
 use mathlib.Core.Path.{ap}
 use Rattle.salvage.proofs.written.Goals as goal
@@ -42,25 +41,17 @@ put_ends-requires c =
     let r = room_all (2 * n) (length a.ends.now) d d (length a.keep.now) (length a.stops.now) (length a.places.now) (length a.reasons.now) (passed c.has_room.ensures (ap not c.if-not-has_room.false)) in
     (rise_marks a.corners.now a.ends.now a.marks.now c.requires.0 c.requires.1, r.ends)
 
-pub put_places-requires : goal.put_places-requires
-put_places-requires c =
+pub put_dropped-requires : goal.put_dropped-requires
+put_dropped-requires c =
     let a = c.args in
     let n = c.count_kept-kept.result in
     let d = length a.marks.now - n in
     let r = room_all (2 * n) (length a.ends.now) d d (length a.keep.now) (length a.stops.now) (length a.places.now) (length a.reasons.now) (passed c.has_room.ensures (ap not c.if-not-has_room.false)) in
-    places_room a.corners.now a.ends.now a.marks.now c.requires.0 c.requires.1 n c.count_kept-kept.ensures (length a.places.now) r.places
-
-pub put_reasons-requires : goal.put_reasons-requires
-put_reasons-requires c =
-    let a = c.args in
-    let n = c.count_kept-kept.result in
-    let d = length a.marks.now - n in
-    let r = room_all (2 * n) (length a.ends.now) d d (length a.keep.now) (length a.stops.now) (length a.places.now) (length a.reasons.now) (passed c.has_room.ensures (ap not c.if-not-has_room.false)) in
-    reasons_room a.corners.now a.ends.now a.marks.now c.requires.0 c.requires.1 n c.count_kept-kept.ensures (length a.reasons.now) r.reasons
+    (places_room a.corners.now a.ends.now a.marks.now c.requires.0 c.requires.1 n c.count_kept-kept.ensures (length a.places.now) r.places, reasons_room a.corners.now a.ends.now a.marks.now c.requires.0 c.requires.1 n c.count_kept-kept.ensures (length a.reasons.now) r.reasons)
 
 pub returns : goal.returns
 returns c =
     let a = c.args in
     let n = c.count_kept-kept.result in
     rw (fits_by a.corners.now a.ends.now a.marks.now c.requires.0 c.requires.1 n c.count_kept-kept.ensures (length a.keep.now) (length a.stops.now) (length a.places.now) (length a.reasons.now) ∙ passed c.has_room.ensures (ap not c.if-not-has_room.false))
-    (all_written a.corners.now a.ends.now a.marks.now c.requires.0 c.requires.1 n c.count_kept-kept.ensures _ _ _ _ _ _ _ _ c.put_corners.ensures c.put_ends.ensures c.put_places.ensures c.put_reasons.ensures)
+    (all_written a.corners.now a.ends.now a.marks.now c.requires.0 c.requires.1 n c.count_kept-kept.ensures _ _ _ _ _ _ _ _ c.put_corners.ensures c.put_ends.ensures c.put_dropped.ensures.places_after c.put_dropped.ensures.reasons_after)

@@ -1,12 +1,11 @@
 use mathlib.Core.Path.{◌≡◌, ◌∙◌}
-use mathlib.Core.Bool.{true}
-use Prim.Native.Nat.{◌+◌, ◌-◌, ◌*◌, ◌/◌, ◌≤◌}
+use Prim.Native.Nat.{◌+◌, ◌-◌, ◌*◌, ◌/◌}
 use native.Mathlib.Omega.{arith}
 use lib.ListN.{length, take, drop, get_or, length-take, length-drop}
 use Rattle.seqs.specs.Lists.{each}
-use Rattle.seqs.specs.Front.{Front, front_start, front_at, front_end}
+use Rattle.seqs.specs.Front.{front_start, front_at, front_end}
 use Rattle.seqs.specs.Reads.{whole}
-use Rattle.geom.specs.Outline.{points, cut, rings, rising}
+use Rattle.geom.specs.Outline.{points, cut, rings}
 use Rattle.geom.specs.OutlineLaws.{points_length, rising_turn}
 use Rattle.salvage.specs.Ring.{ring_marks}
 use Rattle.salvage.specs.Salvage.{marks as marks_of}

@@ -1,19 +1,12 @@
-use mathlib.Core.Path.{◌≡◌, ◌∙◌}
+use mathlib.Core.Path.{◌≡◌}
 use mathlib.Core.Bool.{true}
-use Prim.Native.Nat.{◌+◌, ◌-◌, ◌*◌, ◌/◌, ◌≤◌}
-use native.Mathlib.Omega.{arith}
-use lib.ListN.{length, take, drop, get_or, length-take, length-drop}
+use Prim.Native.Nat.{◌-◌, ◌/◌, ◌≤◌}
+use lib.ListN.{length, drop}
 use Rattle.seqs.specs.Lists.{each}
-use Rattle.seqs.specs.Front.{Front, front_start, front_at, front_end}
-use Rattle.seqs.specs.Reads.{whole}
-use Rattle.geom.specs.Outline.{points, cut, rings, rising}
-use Rattle.geom.specs.OutlineLaws.{points_length, rising_turn}
+use Rattle.seqs.specs.Front.{Front}
+use Rattle.geom.specs.Outline.{points, cut, rising}
 use Rattle.salvage.specs.Ring.{ring_marks}
 use Rattle.salvage.specs.Salvage.{marks as marks_of}
-use Rattle.salvage.specs.RingLaws.{marks_length}
-use Rattle.salvage.specs.OutlineLaws.{outline_marks}
-use Rattle.salvage.proofs.Rings.{part_front, rings_turn, rings_end}
-use borrow.Author.Rules.{rules}
 use Rattle.salvage.proofs.outline.mark_outline.Given as goal
 
 abbrev pub invariant-loop-k : goal.invariant-loop-k

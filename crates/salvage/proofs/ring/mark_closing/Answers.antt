@@ -5,7 +5,6 @@ use lib.ListN.{set}
 use Rattle.salvage.specs.Ring.{CLOSING}
 use Rattle.salvage.specs.RingLaws.{count}
 use Rattle.salvage.proofs.Rings.{closing_none, first_in, last_in, closing_equal, closing_other}
-use borrow.Author.Rules.{rules}
 use Rattle.salvage.proofs.ring.mark_closing.Goals as goal
 
 pub returns-then-count_kept-lt2 : goal.returns-then-count_kept-lt2

@@ -6,7 +6,6 @@ use Rattle.geom.specs.OutlineLaws.{points_length}
 use Rattle.salvage.specs.declared.ring.Last.TheVariants.{Nothing}
 use Rattle.salvage.specs.RingLaws.{strays_length, marks_length}
 use Rattle.salvage.proofs.Rings.{ring_few, ring_enough}
-use borrow.Author.Rules.{rules}
 use Rattle.salvage.proofs.ring.mark_ring.Goals as goal
 
 pub mark_closing-requires : goal.mark_closing-requires

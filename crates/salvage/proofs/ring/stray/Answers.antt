@@ -1,7 +1,6 @@
 use mathlib.Core.Path.{sym, ◌∙◌}
 use Rattle.seqs.specs.Tests.{passed, failed}
 use Rattle.salvage.specs.Ring.{stray}
-use borrow.Author.Rules.{rules}
 use mathlib.Core.Bool.{not}
 use mathlib.Core.Path.{ap}
 use Rattle.salvage.proofs.ring.stray.Goals as goal

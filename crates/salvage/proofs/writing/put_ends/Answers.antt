@@ -1,14 +1,11 @@
-use mathlib.Core.Path.{◌≡◌}
-use mathlib.Core.Bool.{true}
-use Prim.Native.Nat.{◌-◌, ◌≤◌}
+use Prim.Native.Nat.{◌-◌}
 use native.Mathlib.Omega.{arith}
 use lib.ListN.{length, take, drop, get_or, length-take, length-drop}
-use Rattle.seqs.specs.Front.{Front, front_start, front_at, front_room, front_push, front_end}
+use Rattle.seqs.specs.Front.{front_start, front_at, front_room, front_push, front_end}
 use Rattle.seqs.specs.Sift.{sift_length}
-use Rattle.geom.specs.Outline.{cut, rising}
 use Rattle.geom.specs.OutlineLaws.{rising_turn}
 use Rattle.salvage.specs.Ring.{kept}
-use Rattle.salvage.specs.OutlineLaws.{counted_ends, counted_length}
+use Rattle.salvage.specs.OutlineLaws.{counted_length}
 use Rattle.salvage.proofs.Rings.{ends_turn, ends_end}
 use borrow.Author.Rules.{rules}
 use Rattle.salvage.proofs.writing.put_ends.Goals as goal
