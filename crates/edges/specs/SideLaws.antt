@@ -1,5 +1,5 @@
 -- The turns of a loop over a ring's sides, and over the rings. Assumes nothing.
-use Rattle.std.specs.Prelude.{ℕ, ◌+◌, ◌-◌, ◌*◌, ◌≤◌, ◌<◌, ◌≡◌, Bool, cond, length, take, drop, get_or, Float}
+use Rattle.std.specs.Prelude.{ℕ, ◌+◌, ◌-◌, ◌*◌, ◌≤◌, ◌<◌, ◌≡◌, Bool, cond, length, take, drop, get_or, Float, Option, Some, None}
 use Rattle.std.proofs.Common.{arith}
 use Rattle.std.proofs.Math.Path.{refl}
 use Rattle.std.proofs.Math.Bool.{true, false}
@@ -13,13 +13,11 @@ use Rattle.geom.specs.OutlineLaws.{points_next, points_end, cut_next, cut_none}
 use Rattle.rules.specs.declared.Settings.{Settings}
 use Rattle.rules.specs.declared.Edge.{Edge}
 use Rattle.rules.specs.Fill.{kept_side, sides_to, sides, turned, edges}
-use Rattle.edges.specs.declared.side.KeptSide.{KeptSide}
-use Rattle.edges.specs.declared.side.KeptSide.TheVariants.{Kept, Dropped}
 use Rattle.edges.specs.Table.{found, corner, following, ring_edges}
 
-pub found_few : (s : KeptSide) → length (found s) ≤ 1
-found_few (Kept e) = omega arith
-found_few Dropped = omega arith
+pub found_few : (s : Option Edge) → length (found s) ≤ 1
+found_few (Some e) = omega arith
+found_few None = omega arith
 
 pub following_in : (i n : ℕ) → i + 1 < n → following i n + 1 < n
 following_in i n h = go (ltb (i + 3) n) refl

@@ -1,5 +1,5 @@
 -- The kept edges in a slice of floats: edge i as a block of five at 5·i. Definitions only.
-use Rattle.std.specs.Prelude.{ℕ, ◌+◌, ◌*◌, ◌≤◌, Bool, true, false, cond, List, [], ◌∷◌, ltb, pos, length, get_or, Float}
+use Rattle.std.specs.Prelude.{ℕ, ◌+◌, ◌*◌, ◌≤◌, Bool, true, false, cond, List, [], ◌∷◌, ltb, pos, length, get_or, Float, Option, Some, None}
 use Rattle.std.specs.Float.{nan, fin}
 use Rattle.std.specs.Float.Ieee.{neg, lt}
 use Rattle.numbers.specs.Num.{zero64}
@@ -12,13 +12,11 @@ use Rattle.geom.specs.OutlineLaws.{corner_at}
 use Rattle.rules.specs.declared.Settings.{Settings}
 use Rattle.rules.specs.declared.Edge.{Edge}
 use Rattle.rules.specs.Fill.{kept_side, sides, turned}
-use Rattle.edges.specs.declared.side.KeptSide.{KeptSide}
-use Rattle.edges.specs.declared.side.KeptSide.TheVariants.{Kept, Dropped}
 
 -- what a side gives the list of edges
-abbrev pub found : KeptSide → List Edge
-found (Kept e) = e ∷ []
-found Dropped = []
+abbrev pub found : Option Edge → List Edge
+found (Some e) = e ∷ []
+found None = []
 
 -- the turned corner at place i of a flat list
 abbrev pub corner : Settings → List Float → ℕ → P

@@ -6,4 +6,4 @@ pub mod side;
 pub mod table;
 
 pub use rows::{Rows, row_at, row_number, rows_of};
-pub use table::{build, edge_at};
+pub use table::{Table, build};

@@ -1,6 +1,5 @@
 // The rows that the kept edges span, from the rings alone: no working slice is touched.
-ghost use Rattle.std.specs.Prelude.{◌≡◌, true, ◌^◌, ◌<◌, nat_abs, ◌-ℤ◌};
-ghost use Rattle.std.specs.Int.Signed.{le_z};
+ghost use Rattle.std.specs.Prelude.{◌≡◌, ◌<◌};
 ghost use Rattle.seqs.specs.Lists.{fold};
 ghost use Rattle.seqs.specs.Slices.{capped};
 ghost use Rattle.geom.specs.Outline.{points, rings};
@@ -8,11 +7,12 @@ ghost use Rattle.rules.specs.Fill.{how_many, row_at, edges};
 ghost use Rattle.edges.specs.Table.{found, ring_edges, Outline};
 ghost use Rattle.edges.specs.Span.{widen, nowhere, rows_of, row_number, Spanned};
 
-use crate::side::{KeptSide, side};
+use crate::side::side;
 use leaves::{ceil, floor, larger, of_i64, smaller, to_i64};
-use rules::Settings;
+use rules::{Edge, Settings};
 
 // Top and bottom of the edges met so far, and whether there are any.
+// kept (1): no plainer: the rows of no edges are reckoned too, so there is always a top and a bottom beside the flag
 #[derive(Clone, Copy)]
 pub struct Extent {
     pub any: bool,
@@ -29,10 +29,10 @@ pub struct Rows {
 }
 
 // With a side's edge, if it is kept.
-fn widened(x: Extent, s: KeptSide) -> Extent
+fn widened(x: Extent, s: Option<Edge>) -> Extent
     ensures { result ≡ fold widen x (found s) }
 {
-    let KeptSide::Kept(e) = s else {
+    let Some(e) = s else {
         return x;
     };
     Extent {
@@ -64,8 +64,8 @@ fn extent_of(corners: &[f64], ends: &[usize], g: Settings) -> Extent
 {
     let mut x = Extent {
         any: false,
-        top: f64::from_bits(9218868437227405312),
-        bottom: f64::from_bits(18442240474082181120),
+        top: f64::INFINITY,
+        bottom: f64::NEG_INFINITY,
     };
     let mut a = 0;
     let mut k = 0;
@@ -80,38 +80,14 @@ fn extent_of(corners: &[f64], ends: &[usize], g: Settings) -> Extent
     x
 }
 
-// hi - lo + 1, or 4,097 where it is more than 4,096.
-fn from_to(lo: i64, hi: i64) -> usize
-    requires { (le_z lo hi ≡ true) × (nat_abs (hi -ℤ lo) < 2 ^ 63) }
-    ensures { result ≡ capped 4096 (how_many lo hi) }
-{
-    let d = (hi - lo) as usize;
-    if d < 4096 {
-        return d + 1;
-    }
-    4097
-}
-
-// How many from lo to hi, or 4,097 where there are more than 4,096: a difference is worked out only where it can't wrap.
+// How many from lo to hi, or 4,097 where there are more than 4,096.
 fn how_many(lo: i64, hi: i64) -> usize
     ensures { result ≡ capped 4096 (how_many lo hi) }
 {
     if hi < lo {
         return 0;
     }
-    if hi < 0 {
-        return from_to(lo, hi);
-    }
-    if lo < 0 {
-        if lo < -4096 {
-            return 4097;
-        }
-        if 4096 < hi {
-            return 4097;
-        }
-        return from_to(lo, hi);
-    }
-    from_to(lo, hi)
+    hi.abs_diff(lo).min(4096) as usize + 1
 }
 
 // The rows of all rings.
@@ -122,18 +98,8 @@ pub fn rows_of(corners: &[f64], ends: &[usize], g: Settings) -> Rows
     let x = extent_of(corners, ends, g);
     let lo = to_i64(ceil(x.top / g.spacing - 0.5));
     let hi = to_i64(floor(x.bottom / g.spacing - 0.5));
-    if x.any {
-        return Rows {
-            lo: lo,
-            hi: hi,
-            n: how_many(lo, hi),
-        };
-    }
-    Rows {
-        lo: lo,
-        hi: hi,
-        n: 0,
-    }
+    let n = if x.any { how_many(lo, hi) } else { 0 };
+    Rows { lo, hi, n }
 }
 
 // The number of row r in the order met.

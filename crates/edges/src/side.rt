@@ -7,13 +7,6 @@ use geom::P;
 use leaves::magnitude;
 use rules::{Edge, Settings};
 
-// A side as an edge, or dropped.
-#[derive(Clone, Copy)]
-pub enum KeptSide {
-    Kept(Edge),
-    Dropped,
-}
-
 fn edge_of(top: P, bot: P, falls: bool) -> Edge
     ensures { result ≡ edge_of top bot falls }
 {
@@ -26,16 +19,17 @@ fn edge_of(top: P, bot: P, falls: bool) -> Edge
     }
 }
 
-fn kept_side(a: P, b: P) -> KeptSide
+// A side as an edge, or none where it is dropped.
+fn kept_side(a: P, b: P) -> Option<Edge>
     ensures { found result ≡ kept_side (a, b) }
 {
     if magnitude(a.y - b.y) < 1e-9 {
-        return KeptSide::Dropped;
+        return None;
     }
     if a.y < b.y {
-        return KeptSide::Kept(edge_of(a, b, true));
+        return Some(edge_of(a, b, true));
     }
-    KeptSide::Kept(edge_of(b, a, false))
+    Some(edge_of(b, a, false))
 }
 
 // The turned corner at place i of the flat list.
@@ -62,7 +56,7 @@ pub fn following(i: usize, n: usize) -> usize
 }
 
 // The side from the corner at place i to the next.
-pub fn side(l: &[f64], i: usize, g: Settings) -> KeptSide
+pub fn side(l: &[f64], i: usize, g: Settings) -> Option<Edge>
     requires { i + 1 < length l.now }
     ensures { found result ≡ kept_side (corner g l.now i, corner g l.now (following i (length l.now))) }
 {

@@ -1,13 +1,66 @@
 // The table: edge i as a block of five floats at 5·i.
-ghost use Rattle.std.specs.Prelude.{◌≡◌, ◌+◌, ◌*◌, ◌≤◌, length};
+ghost use Rattle.std.specs.Prelude.{◌≡◌, ◌+◌, ◌*◌, ◌≤◌, List, length, map};
 ghost use Rattle.seqs.specs.Records.{Added};
 ghost use Rattle.seqs.specs.Slices.{Wrote};
 ghost use Rattle.geom.specs.Outline.{points, rings};
+ghost use Rattle.rules.specs.declared.Edge.{Edge};
 ghost use Rattle.rules.specs.Fill.{edge, edges};
-ghost use Rattle.edges.specs.Table.{found, direction, edge_block, edge_place, edges_in, ring_edges, Outline};
+ghost use Rattle.edges.specs.Table.{found, direction, edge_block, block_edge, edge_place, edges_in, ring_edges, Outline};
 
-use crate::side::{KeptSide, side};
+use crate::side::side;
 use rules::{Edge, Settings};
+use std::marker::Model;
+
+// A table of edges that is read: contracts see the list of its edges.
+#[derive(Drop)]
+pub struct Table<'a> {
+    blocks: &'a [[f64; 5]],
+}
+
+impl<'a> Model for Table<'a> {
+    ghost Value = { List Edge };
+
+    ghost view = { λ t. map block_edge t.blocks.now };
+}
+
+impl<'a> Table<'a> {
+    // The first n edges that stand in a slice.
+    pub fn new(floats: &'a [f64], n: usize) -> Self
+        requires { 5 * n ≤ length floats.now }
+        ensures { result ≡ edges_in n floats.now }
+    {
+        let (blocks, _) = floats[..5 * n].as_chunks();
+        Table { blocks }
+    }
+
+    pub fn len(&self) -> usize
+        ensures { result ≡ length self.now }
+    {
+        self.blocks.len()
+    }
+
+    // The edge at place i; no edge past the last.
+    pub fn edge(&self, i: usize) -> Edge
+        ensures { result ≡ edge self.now i }
+    {
+        match self.blocks.get(i) {
+            Some(&[y0, y1, x0, dxdy, way]) => Edge {
+                y0,
+                y1,
+                x0,
+                dxdy,
+                falls: 0.0 < way,
+            },
+            None => Edge {
+                y0: 0.0,
+                y1: 0.0,
+                x0: 0.0,
+                dxdy: 0.0,
+                falls: true,
+            },
+        }
+    }
+}
 
 fn direction(falls: bool) -> f64
     ensures { result ≡ direction falls }
@@ -20,22 +73,17 @@ fn put_edge(floats: &mut [f64], k: usize, e: Edge)
     requires { k ≤ 1000000 }
     ensures { Wrote floats.old floats.new k (edge_block e) }
 {
-    if floats.len() < k + 5 {
-        return;
+    if k + 5 <= floats.len() {
+        floats[k..k + 5].copy_from_slice(&[e.y0, e.y1, e.x0, e.dxdy, direction(e.falls)]);
     }
-    floats[k] = e.y0;
-    floats[k + 1] = e.y1;
-    floats[k + 2] = e.x0;
-    floats[k + 3] = e.dxdy;
-    floats[k + 4] = direction(e.falls);
 }
 
 // A side's edge as edge n, if it is kept; how many there are then.
-fn put_side(floats: &mut [f64], n: usize, s: KeptSide) -> usize
+fn put_side(floats: &mut [f64], n: usize, s: Option<Edge>) -> usize
     requires { n ≤ 10000 }
     ensures { Added edge_place edge_block floats.old floats.new n result (found s) }
 {
-    let KeptSide::Kept(e) = s else {
+    let Some(e) = s else {
         return n;
     };
     put_edge(floats, 5 * n, e);
@@ -77,28 +125,4 @@ pub fn build(corners: &[f64], ends: &[usize], g: Settings, floats: &mut [f64]) -
         k += 1;
     }
     n
-}
-
-// The edge at place i of a table of n; no edge past its end.
-pub fn edge_at(floats: &[f64], n: usize, i: usize) -> Edge
-    requires { 5 * n ≤ length floats.now }
-    ensures { result ≡ edge (edges_in n floats.now) i }
-{
-    if n <= i {
-        return Edge {
-            y0: 0.0,
-            y1: 0.0,
-            x0: 0.0,
-            dxdy: 0.0,
-            falls: true,
-        };
-    }
-    let k = 5 * i;
-    Edge {
-        y0: floats[k],
-        y1: floats[k + 1],
-        x0: floats[k + 2],
-        dxdy: floats[k + 3],
-        falls: 0.0 < floats[k + 4],
-    }
 }

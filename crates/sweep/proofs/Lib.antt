@@ -1,3 +1,3 @@
 pub mod Scans
-pub mod Merging
+pub mod Split
 pub mod Stripe

@@ -1,10 +1,13 @@
 -- The turns of a scan over a row's places. Assumes nothing.
-use Prim.Native.Nat.{ℕ, ◌+◌, ◌≤◌, ◌<◌}
-use mathlib.Core.Path.{◌≡◌, refl}
+use Prim.Native.Nat.{ℕ, ◌+◌, ◌-◌, ◌≤◌, ◌<◌}
+use mathlib.Core.Path.{◌≡◌, sym, ap, ◌∙◌}
+use native.Mathlib.Omega.{arith}
 use mathlib.Core.Bool.{Bool, true, false, cond, not, ◌&&◌}
 use mathlib.Core.List.{List, [], ◌∷◌, map}
 use lib.IntN.{ℤ, pos, negsuc, ◌+ℤ◌}
-use lib.ListN.{length, drop, get_or}
+use lib.ListN.{length, take, drop, get_or, length-drop}
+use Rattle.std.proofs.lemmas.List.{get_or-drop}
+use Rattle.seqs.specs.Parts.{tail_lent}
 use lib.Ieee.{Float}
 use Rattle.numbers.specs.Num.{◌⊕◌, ◌⊖◌, ◌⊗◌}
 use Rattle.seqs.specs.Lists.{keep_if}
@@ -18,6 +21,17 @@ use Rattle.sweep.specs.declared.piece.Crossing.{Crossing}
 use Rattle.sweep.specs.declared.piece.Scan.{Scan}
 use Rattle.sweep.specs.SweptLaws.{cuts_next, cuts_none}
 use Rattle.sweep.specs.Swept.{Crossed, cut_ends, wide_span, cuts_from, rest_of, passed}
+
+-- the places behind `at`, as they are lent
+module _ (l : List ℕ) (at i : ℕ) {next : ℕ} (is : next ≡ at + 1 + i) where
+  pub lent_read : get_or (take (length l - (at + 1)) (drop (at + 1) l)) i 0 ≡ get_or l next 0
+  lent_read = rw (tail_lent l [] (at + 1)) (get_or-drop (at + 1) l i 0 ∙ ap (λ k. get_or l k 0) (sym is))
+
+  pub lent_in : i < length (take (length l - (at + 1)) (drop (at + 1) l)) → next < length l
+  lent_in h = let t = rw (tail_lent l [] (at + 1)) at h in omega (arith, length-drop (at + 1) l)
+
+  pub lent_all : at < length l → length (take (length l - (at + 1)) (drop (at + 1) l)) ≤ i → length l ≤ next
+  lent_all k h = let t = rw (tail_lent l [] (at + 1)) at h in omega (arith, length-drop (at + 1) l)
 
 -- a crossing at x of direction d is merged with those from place i on
 module _ (es : List Edge) (y : Float) (l : List ℕ) where

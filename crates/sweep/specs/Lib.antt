@@ -7,3 +7,5 @@ pub mod Met
 pub mod Alone
 pub mod Exact
 pub mod LaidLaws
+pub mod Laying
+pub mod LayingLaws

@@ -1,5 +1,5 @@
 -- The sweep over the rows in the order met, top down or bottom up, as the code goes. Definitions only.
-use Rattle.std.specs.Prelude.{ℕ, ◌+◌, ◌-◌, ◌*◌, ◌≤◌, ◌≡◌, Bool, true, false, not, ◌&&◌, cond, List, [], ◌∷◌, ◌++◌, map, leb, ℤ, pos, negsuc, nat_abs, ◌+ℤ◌, length, take, drop, replicate, Float}
+use Rattle.std.specs.Prelude.{ℕ, ◌+◌, ◌-◌, ◌*◌, ◌≤◌, ◌≡◌, Bool, true, false, not, ◌&&◌, cond, List, [], ◌∷◌, ◌++◌, map, leb, ℤ, pos, negsuc, nat_abs, ◌+ℤ◌, length, take, drop, Float, Option, Some, None}
 use Rattle.std.specs.Float.Ieee.{neg, le}
 use Rattle.numbers.specs.Num.{◌⊕◌, ◌⊖◌, zero64}
 use Rattle.numbers.specs.Order.{before}
@@ -21,10 +21,7 @@ use Rattle.sweep.specs.declared.piece.Cut.{Cut}
 use Rattle.sweep.specs.declared.piece.Span.{Span}
 use Rattle.sweep.specs.declared.piece.Crossing.{Crossing}
 use Rattle.sweep.specs.declared.piece.Scan.{Scan}
-use Rattle.sweep.specs.declared.piece.Step.{Step}
-use Rattle.sweep.specs.declared.piece.Step.TheVariants.{Found, End}
 use Rattle.sweep.specs.declared.active.Live.{Live}
-use Rattle.sweep.specs.declared.row.Done.{Done}
 
 -- ---- places in order
 
@@ -111,14 +108,17 @@ pub record Next (c : Cut) (es : List Edge) (l : List ℕ) (s : Scan) (p : Span) 
   pub small : nat_abs t.w ≤ t.at
 
 -- what a step of the scan found
-abbrev pub Stepped : Cut → List Edge → List ℕ → Scan → Step → Type 0
-Stepped c es l s (Found p t) = Next c es l s p t
-Stepped c es l s End = rest_of c es l s ≡ []
+abbrev pub Stepped : Cut → List Edge → List ℕ → Scan → Option (Span × Scan) → Type 0
+Stepped c es l s (Some f) = Next c es l s f.0 f.1
+Stepped c es l s None = rest_of c es l s ≡ []
 
--- ---- pieces in the lent slices: piece i as a block of three floats at 6E + 3·i, its row's count at 4E + i
+-- ---- pieces in slices of their own: piece i as a block of three floats at 3·i, its row's count at i; and in the lent slices at 6E + 3·i and 4E + i
 
 abbrev pub span_block : Float → Span → List Float
 span_block y p = y ∷ p.xa ∷ p.xb ∷ []
+
+abbrev pub block_place : ℕ → ℕ
+block_place i = 3 * i
 
 abbrev pub piece_place : ℕ → ℕ → ℕ
 piece_place e i = 6 * e + 3 * i
@@ -163,25 +163,6 @@ pub record Gathered (upward : Bool) (es : List Edge) (y : Float) (live : Live) (
   pub on : r.next ≤ length d
   pub active : take r.m d' ≡ places upward es y (take live.m d) (drop live.next d)
   pub waits : drop r.next d' ≡ drop_while (enters upward es y) (drop live.next d)
-
--- what a row is lent
-pub record Row (d : List Float) (a : List ℕ) (e : ℕ) (live : Live) (i : ℕ) : Type 0 where
-  pub floats : 6 * e ≤ length d
-  pub wholes : 4 * e ≤ length a
-  pub edges : e ≤ 1024
-  pub few : live.m ≤ live.next
-  pub on : live.next ≤ e
-  pub pieces : i ≤ 5000000
-
--- row r: its places, and its pieces from piece i on
-pub record Rowed (upward : Bool) (c : Cut) (es : List Edge) (e : ℕ) (live : Live) (i r : ℕ) (d d' : List Float) (a a' : List ℕ) (s : Done) : Type 0 where
-  pub size : length a' ≡ length a
-  pub few : s.m ≤ s.next
-  pub on : s.next ≤ e
-  pub active : take s.m a' ≡ places upward es c.y (take live.m a) (drop live.next (take e a))
-  pub waits : drop s.next (take e a') ≡ drop_while (enters upward es c.y) (drop live.next (take e a))
-  pub pieces : Added (piece_place e) (span_block c.y) d d' i s.i (cuts c es (take s.m a'))
-  pub rows : Wrote (drop (4 * e) a) (drop (4 * e) a') i (replicate (length (cuts c es (take s.m a'))) r)
 
 -- what a sweep is lent: a table of e edges, and room for its places
 pub record Lent (d : List Float) (a : List ℕ) (e : ℕ) (w : Rows) : Type 0 where

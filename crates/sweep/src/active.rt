@@ -1,10 +1,9 @@
 // The stripe of places: the first m cross the row, in order; those from next on wait.
-ghost use Rattle.std.specs.Prelude.{◌≡◌, ◌*◌, ◌≤◌, length};
-ghost use Rattle.edges.specs.Table.{edges_in};
+ghost use Rattle.std.specs.Prelude.{◌≡◌, ◌≤◌, length};
 ghost use Rattle.sweep.specs.Swept.{enters, stays, Retained, Admitted, Gathered};
 
 use crate::key::{Key, sort};
-use edges::edge_at;
+use edges::Table;
 
 #[derive(Clone, Copy)]
 pub struct Live {
@@ -12,83 +11,65 @@ pub struct Live {
     pub next: usize,
 }
 
-fn enters(floats: &[f64], e: usize, upward: bool, y: f64, i: usize) -> bool
-    requires { 5 * e ≤ length floats.now }
-    ensures { result ≡ enters upward (edges_in e floats.now) y i }
+fn enters(table: &Table, upward: bool, y: f64, i: usize) -> bool
+    ensures { result ≡ enters upward table.now y i }
 {
-    let t = edge_at(floats, e, i);
-    if upward {
-        return y < t.y1;
-    }
-    t.y0 <= y
+    let t = table.edge(i);
+    if upward { y < t.y1 } else { t.y0 <= y }
 }
 
-fn stays(floats: &[f64], e: usize, upward: bool, y: f64, i: usize) -> bool
-    requires { 5 * e ≤ length floats.now }
-    ensures { result ≡ stays upward (edges_in e floats.now) y i }
+fn stays(table: &Table, upward: bool, y: f64, i: usize) -> bool
+    ensures { result ≡ stays upward table.now y i }
 {
-    let t = edge_at(floats, e, i);
-    if upward {
-        return t.y0 <= y;
-    }
-    y < t.y1
+    let t = table.edge(i);
+    if upward { t.y0 <= y } else { y < t.y1 }
 }
 
 // Of the first m places those that stay; how many.
-fn retain(l: &mut [usize], m: usize, floats: &[f64], e: usize, upward: bool, y: f64) -> usize
-    requires { (m ≤ length l.old) × (5 * e ≤ length floats.now) }
-    ensures { Retained (stays upward (edges_in e floats.now) y) m l.old l.new result }
+fn retain(l: &mut [usize], m: usize, table: &Table, upward: bool, y: f64) -> usize
+    requires { m ≤ length l.old }
+    ensures { Retained (stays upward table.now y) m l.old l.new result }
 {
-    let mut i = 0;
     let mut j = 0;
-    while i < m {
+    for i in 0..m {
         let p = l[i];
-        if stays(floats, e, upward, y, p) {
+        if stays(table, upward, y, p) {
             l[j] = p;
             j += 1;
         }
-        i += 1;
     }
     j
 }
 
 // Those that wait and are taken up go behind the first m, if they stay.
-fn admit(
-    l: &mut [usize],
-    m: usize,
-    next: usize,
-    floats: &[f64],
-    e: usize,
-    upward: bool,
-    y: f64,
-) -> Live
-    requires { (m ≤ next) × (next ≤ length l.old) × (5 * e ≤ length floats.now) }
-    ensures { Admitted (stays upward (edges_in e floats.now) y) (enters upward (edges_in e floats.now) y) m next l.old l.new result }
+fn admit(l: &mut [usize], m: usize, next: usize, table: &Table, upward: bool, y: f64) -> Live
+    requires { (m ≤ next) × (next ≤ length l.old) }
+    ensures { Admitted (stays upward table.now y) (enters upward table.now y) m next l.old l.new result }
 {
-    let mut i = next;
     let mut j = m;
-    while i < l.len() {
+    for i in next..l.len() {
         let p = l[i];
-        if !enters(floats, e, upward, y, p) {
+        if !enters(table, upward, y, p) {
             return Live { m: j, next: i };
         }
-        if stays(floats, e, upward, y, p) {
+        if stays(table, upward, y, p) {
             l[j] = p;
             j += 1;
         }
-        i += 1;
     }
-    Live { m: j, next: i }
+    Live {
+        m: j,
+        next: l.len(),
+    }
 }
 
 // The places of the row at y, in order.
-pub fn gather(l: &mut [usize], live: Live, floats: &[f64], e: usize, upward: bool, y: f64) -> Live
-    requires { (live.m ≤ live.next) × (live.next ≤ length l.old) × (5 * e ≤ length floats.now) }
-    ensures { Gathered upward (edges_in e floats.now) y live l.old l.new result }
+pub fn gather(l: &mut [usize], live: Live, table: &Table, upward: bool, y: f64) -> Live
+    requires { (live.m ≤ live.next) × (live.next ≤ length l.old) }
+    ensures { Gathered upward table.now y live l.old l.new result }
 {
-    let kept = retain(l, live.m, floats, e, upward, y);
-    let r = admit(l, kept, live.next, floats, e, upward, y);
-    let m = r.m;
-    sort(&mut l[..m], floats, e, Key::X(y));
+    let kept = retain(l, live.m, table, upward, y);
+    let r = admit(l, kept, live.next, table, upward, y);
+    sort(&mut l[..r.m], table, Key::X(y));
     r
 }

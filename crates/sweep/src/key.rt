@@ -1,10 +1,9 @@
 // Places of edges in order: by a key in total order, and where keys are equal by place. Insertion from the back, for few places and for those that are nearly in order.
-ghost use Rattle.std.specs.Prelude.{◌≡◌, ◌++◌, ◌+◌, ◌*◌, ◌≤◌, ◌<◌, length, take, drop, get_or};
+ghost use Rattle.std.specs.Prelude.{◌≡◌, ◌++◌, ◌+◌, ◌<◌, length, take, drop, get_or};
 ghost use Rattle.seqs.specs.Lists.{insert_back};
-ghost use Rattle.edges.specs.Table.{edges_in};
 ghost use Rattle.sweep.specs.Swept.{key_of, ahead, by, ordered};
 
-use edges::edge_at;
+use edges::Table;
 
 // A row's crossings, y0, or y1 with the last first.
 #[derive(Clone, Copy)]
@@ -14,11 +13,10 @@ pub enum Key {
     Bottom,
 }
 
-pub fn key_of(floats: &[f64], e: usize, key: Key, i: usize) -> f64
-    requires { 5 * e ≤ length floats.now }
-    ensures { result ≡ key_of key (edges_in e floats.now) i }
+pub fn key_of(table: &Table, key: Key, i: usize) -> f64
+    ensures { result ≡ key_of key table.now i }
 {
-    let t = edge_at(floats, e, i);
+    let t = table.edge(i);
     match key {
         Key::X(y) => t.x0 + (y - t.y0) * t.dxdy,
         Key::Top => t.y0,
@@ -40,32 +38,27 @@ pub fn ahead(x: f64, i: usize, z: f64, j: usize) -> bool
 }
 
 // The place at n is put in order among the first n.
-fn insert(l: &mut [usize], n: usize, floats: &[f64], e: usize, key: Key)
-    requires { (n < length l.old) × (5 * e ≤ length floats.now) }
-    ensures { l.new ≡ insert_back (by key (edges_in e floats.now)) (get_or l.old n 0) (take n l.old) ++ drop (n + 1) l.old }
+fn insert(l: &mut [usize], n: usize, table: &Table, key: Key)
+    requires { n < length l.old }
+    ensures { l.new ≡ insert_back (by key table.now) (get_or l.old n 0) (take n l.old) ++ drop (n + 1) l.old }
 {
     let p = l[n];
-    let x = key_of(floats, e, key, p);
-    let mut j = n;
-    while 0 < j {
-        let q = l[j - 1];
-        if !ahead(x, p, key_of(floats, e, key, q), q) {
-            l[j] = p;
+    let x = key_of(table, key, p);
+    for j in (0..n).rev() {
+        let q = l[j];
+        if !ahead(x, p, key_of(table, key, q), q) {
+            l[j + 1] = p;
             return;
         }
-        l[j] = q;
-        j -= 1;
+        l[j + 1] = q;
     }
-    l[j] = p;
+    l[0] = p;
 }
 
-pub fn sort(l: &mut [usize], floats: &[f64], e: usize, key: Key)
-    requires { 5 * e ≤ length floats.now }
-    ensures { l.new ≡ ordered key (edges_in e floats.now) l.old }
+pub fn sort(l: &mut [usize], table: &Table, key: Key)
+    ensures { l.new ≡ ordered key table.now l.old }
 {
-    let mut n = 0;
-    while n < l.len() {
-        insert(l, n, floats, e, key);
-        n += 1;
+    for n in 0..l.len() {
+        insert(l, n, table, key);
     }
 }

@@ -1,13 +1,12 @@
 // The pieces of a row, one at a time by value, and put behind the table.
-ghost use Rattle.std.specs.Prelude.{◌≡◌, not, cond, ◌&&◌, ◌+◌, ◌*◌, ◌≤◌, ◌<◌, pos, negsuc, nat_abs, length, replicate};
+ghost use Rattle.std.specs.Prelude.{◌≡◌, not, cond, ◌&&◌, ◌+◌, ◌≤◌, ◌<◌, pos, negsuc, nat_abs, length, replicate};
 ghost use Rattle.seqs.specs.Records.{Added};
 ghost use Rattle.seqs.specs.Slices.{Wrote};
 ghost use Rattle.outlines.specs.Inside.{inside};
 ghost use Rattle.rules.specs.Fill.{same_x};
-ghost use Rattle.edges.specs.Table.{edges_in};
-ghost use Rattle.sweep.specs.Swept.{Crossed, joined_to, cut_ends, wide_span, passed, cuts, Stepped, span_block, piece_place};
+ghost use Rattle.sweep.specs.Swept.{Crossed, joined_to, cut_ends, wide_span, passed, cuts, Stepped, span_block, block_place};
 
-use edges::edge_at;
+use edges::Table;
 use leaves::to_bits;
 use outlines::FillRule;
 
@@ -42,12 +41,6 @@ pub struct Scan {
     pub start: f64,
 }
 
-#[derive(Clone, Copy)]
-pub enum Step {
-    Found(Span, Scan),
-    End,
-}
-
 pub fn way(falls: bool) -> i64
     ensures { (result ≡ cond falls (pos 1) (negsuc 0)) × (nat_abs result ≤ 1) }
 {
@@ -74,19 +67,18 @@ pub fn join(c: Crossing, falls: bool) -> Crossing
 }
 
 // The crossings of a row at y that have the x of the one at `at`.
-fn crossing_at(floats: &[f64], e: usize, places: &[usize], y: f64, at: usize) -> Crossing
-    requires { (5 * e ≤ length floats.now) × (length places.now ≤ 100000) × (at < length places.now) }
-    ensures { Crossed (edges_in e floats.now) y places.now at result }
+fn crossing_at(table: &Table, places: &[usize], y: f64, at: usize) -> Crossing
+    requires { (length places.now ≤ 100000) × (at < length places.now) }
+    ensures { Crossed table.now y places.now at result }
 {
-    let t = edge_at(floats, e, places[at]);
+    let t = table.edge(places[at]);
     let mut c = Crossing {
         x: t.x0 + (y - t.y0) * t.dxdy,
         dir: way(t.falls),
         next: at + 1,
     };
-    while c.next < places.len() {
-        let i = c.next;
-        let u = edge_at(floats, e, places[i]);
+    for i in &places[at + 1..] {
+        let u = table.edge(*i);
         if !same_x(c.x, u.x0 + (y - u.y0) * u.dxdy) {
             return c;
         }
@@ -99,10 +91,7 @@ fn crossing_at(floats: &[f64], e: usize, places: &[usize], y: f64, at: usize) ->
 fn begins(rule: FillRule, w: i64, v: i64) -> bool
     ensures { result ≡ (not (inside rule w) && inside rule v) }
 {
-    if rule.inside(w) {
-        return false;
-    }
-    rule.inside(v)
+    !rule.inside(w) && rule.inside(v)
 }
 
 // The scan one crossing on.
@@ -112,17 +101,10 @@ pub fn pass(c: Cut, s: Scan, x: Crossing) -> Scan
 {
     let rule = c.rule;
     let v = s.w + x.dir;
-    if begins(rule, s.w, v) {
-        return Scan {
-            at: x.next,
-            w: v,
-            start: x.x,
-        };
-    }
     Scan {
         at: x.next,
         w: v,
-        start: s.start,
+        start: if begins(rule, s.w, v) { x.x } else { s.start },
     }
 }
 
@@ -141,32 +123,26 @@ pub fn closes(c: Cut, s: Scan, t: Scan, p: Span) -> bool
     ensures { result ≡ ((inside c.rule s.w && not (inside c.rule t.w)) && wide_span c p) }
 {
     let rule = c.rule;
-    if rule.inside(s.w) {
-        if rule.inside(t.w) {
-            return false;
-        }
-        return c.least <= p.xb - p.xa;
-    }
-    false
+    rule.inside(s.w) && !rule.inside(t.w) && c.least <= p.xb - p.xa
 }
 
-// The next kept piece of a row whose crossings, left to right, are places.
-pub fn next_piece(floats: &[f64], e: usize, places: &[usize], c: Cut, from: Scan) -> Step
-    requires { (5 * e ≤ length floats.now) × (length places.now ≤ 100000) × (nat_abs from.w ≤ from.at) × (from.at ≤ length places.now) }
-    ensures { Stepped c (edges_in e floats.now) places.now from result }
+// The next kept piece of a row whose crossings, left to right, are places, and the scan behind it.
+pub fn next_piece(table: &Table, places: &[usize], c: Cut, from: Scan) -> Option<(Span, Scan)>
+    requires { (length places.now ≤ 100000) × (nat_abs from.w ≤ from.at) × (from.at ≤ length places.now) }
+    ensures { Stepped c table.now places.now from result }
 {
-    let y = c.y;
     let mut s = from;
+    // kept (3): no plainer: a turn passes as many places as share an x
     while s.at < places.len() {
-        let x = crossing_at(floats, e, places, y, s.at);
+        let x = crossing_at(table, places, c.y, s.at);
         let next = pass(c, s, x);
         let p = cut_ends(c, next.start, x.x);
         if closes(c, s, next, p) {
-            return Step::Found(p, next);
+            return Some((p, next));
         }
         s = next;
     }
-    Step::End
+    None
 }
 
 // A piece at k, if there is room.
@@ -174,35 +150,28 @@ pub fn put_piece(floats: &mut [f64], k: usize, y: f64, p: Span)
     requires { k ≤ 1000000000 }
     ensures { Wrote floats.old floats.new k (span_block y p) }
 {
-    if floats.len() < k + 3 {
-        return;
+    if k + 3 <= floats.len() {
+        floats[k..k + 3].copy_from_slice(&[y, p.xa, p.xb]);
     }
-    floats[k] = y;
-    floats[k + 1] = p.xa;
-    floats[k + 2] = p.xb;
 }
 
 // A row's pieces from piece i on, if there is room; how many there are then.
-pub fn put_pieces(floats: &mut [f64], e: usize, places: &[usize], c: Cut, i: usize) -> usize
-    requires { (6 * e ≤ length floats.old) × (e ≤ 1024) × (i ≤ 10000000) × (length places.now ≤ 100000) }
-    ensures { Added (piece_place e) (span_block c.y) floats.old floats.new i result (cuts c (edges_in e floats.old) places.now) }
+pub fn put_pieces(table: &Table, places: &[usize], c: Cut, floats: &mut [f64], i: usize) -> usize
+    requires { (i ≤ 10000000) × (length places.now ≤ 100000) }
+    ensures { Added block_place (span_block c.y) floats.old floats.new i result (cuts c table.now places.now) }
 {
-    let y = c.y;
     let mut s = Scan {
         at: 0,
         w: 0,
         start: 0.0,
     };
     let mut n = i;
-    loop {
-        let r = next_piece(floats, e, places, c, s);
-        let Step::Found(p, t) = r else {
-            return n;
-        };
-        put_piece(floats, 6 * e + 3 * n, y, p);
+    while let Some((p, t)) = next_piece(table, places, c, s) {
+        put_piece(floats, 3 * n, c.y, p);
         n += 1;
         s = t;
     }
+    n
 }
 
 // r for each of m pieces, from k on, if there is room.
@@ -210,13 +179,7 @@ pub fn put_rows(l: &mut [usize], k: usize, m: usize, r: usize)
     requires { k + m ≤ 1000000000 }
     ensures { Wrote l.old l.new k (replicate m r) }
 {
-    let end = k + m;
-    if l.len() < end {
-        return;
-    }
-    let mut i = k;
-    while i < end {
-        l[i] = r;
-        i += 1;
+    if k + m <= l.len() {
+        l[k..k + m].fill(r);
     }
 }

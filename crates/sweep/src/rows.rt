@@ -1,16 +1,17 @@
 // All rows, in the order met.
-ghost use Rattle.std.specs.Prelude.{◌≡◌, cond, [], ◌*◌, ◌<◌, take};
+ghost use Rattle.std.specs.Prelude.{◌≡◌, cond, [], ◌<◌};
 ghost use Rattle.seqs.specs.Lists.{Strict};
 ghost use Rattle.edges.specs.Table.{edges_in};
 ghost use Rattle.edges.specs.Span.{row_number, Spanned};
 ghost use Rattle.sweep.specs.declared.key.Key.TheVariants.{Top, Bottom};
 ghost use Rattle.sweep.specs.Swept.{by, cut_at, numbers, swept, swept_all, Lent, Laid};
+ghost use Rattle.sweep.specs.Laying.{Roomy, Stripe, Written};
 
 use crate::active::Live;
 use crate::piece::Cut;
-use crate::row::row;
+use crate::row::{Done, row};
 use crate::waiting::wait;
-use edges::{Rows, row_at, row_number};
+use edges::{Rows, Table, row_at, row_number};
 use leaves::larger;
 use outlines::FillRule;
 use rules::Settings;
@@ -28,37 +29,51 @@ pub fn cut_at(rule: FillRule, g: Settings, upward: bool, w: Rows, r: usize) -> C
     }
 }
 
-// The rows, over places that wait in order.
+// The rows, over a stripe of places that wait in order.
 fn all_rows(
-    floats: &mut [f64],
-    wholes: &mut [usize],
-    e: usize,
+    table: &Table,
+    places: &mut [usize],
     rule: FillRule,
     g: Settings,
     upward: bool,
     w: Rows,
+    floats: &mut [f64],
+    wholes: &mut [usize],
 ) -> usize
-    requires { Lent floats.old wholes.old e w }
-    ensures { Laid e result (swept upward rule g (edges_in e floats.old) [] (take e wholes.old) (numbers w upward 0)) floats.old floats.new wholes.old wholes.new }
+    requires { Stripe table.now places.old w }
+    ensures { Written result (swept upward rule g table.now [] places.old (numbers w upward 0)) floats.old floats.new wholes.old wholes.new }
 {
-    let n = w.n;
-    let mut live = Live { m: 0, next: 0 };
-    let mut i = 0;
-    let mut r = 0;
-    while r < n {
+    let mut done = Done {
+        live: Live { m: 0, next: 0 },
+        i: 0,
+    };
+    for r in 0..w.n {
         let c = cut_at(rule, g, upward, w, r);
-        let s = row(floats, wholes, e, live, upward, c, i, r);
-        live = Live {
-            m: s.m,
-            next: s.next,
-        };
-        i = s.i;
-        r += 1;
+        done = row(table, places, done, upward, c, floats, wholes, r);
     }
-    i
+    done.i
 }
 
-// The pieces of all rows, in the order met, over a table of e edges: how many. They are written as far as there is room.
+// The pieces of all rows, in the order met, in slices of their own: how many. They are written as far as there is room; `places` is scratch.
+pub fn lay(
+    table: &Table,
+    places: &mut [usize],
+    rule: FillRule,
+    g: Settings,
+    upward: bool,
+    w: Rows,
+    floats: &mut [f64],
+    wholes: &mut [usize],
+) -> usize
+    requires { Roomy table.now places.old upward w }
+    ensures { Written result (swept_all upward rule g table.now (numbers w upward 0)) floats.old floats.new wholes.old wholes.new }
+{
+    let (places, room) = places.split_at_mut(table.len());
+    wait(places, room, table, upward);
+    all_rows(table, places, rule, g, upward, w, floats, wholes)
+}
+
+// The pieces of all rows, in the order met, behind a table of e edges: how many. They are written as far as there is room.
 pub fn sweep(
     floats: &mut [f64],
     wholes: &mut [usize],
@@ -71,6 +86,16 @@ pub fn sweep(
     requires { Lent floats.old wholes.old e w × Strict (by (cond upward Bottom Top) (edges_in e floats.old)) }
     ensures { Laid e result (swept_all upward rule g (edges_in e floats.old) (numbers w upward 0)) floats.old floats.new wholes.old wholes.new }
 {
-    wait(&mut wholes[..2 * e], floats, e, upward);
-    all_rows(floats, wholes, e, rule, g, upward, w)
+    let (edges, floats) = floats.split_at_mut(6 * e);
+    let (places, wholes) = wholes.split_at_mut(4 * e);
+    lay(
+        &Table::new(edges, e),
+        places,
+        rule,
+        g,
+        upward,
+        w,
+        floats,
+        wholes,
+    )
 }

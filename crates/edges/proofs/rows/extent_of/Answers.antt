@@ -1,27 +1,17 @@
-use mathlib.Core.Path.{◌≡◌, sym, ap, ◌∙◌}
-use mathlib.Core.Bool.{true}
-use Prim.Native.Nat.{◌≤◌, ◌+◌, ◌-◌, ◌*◌, ◌/◌}
+use mathlib.Core.Path.{sym, ap, ◌∙◌}
+use Prim.Native.Nat.{◌+◌, ◌-◌, ◌*◌, ◌/◌}
 use native.Mathlib.Omega.{arith}
 use lib.ListN.{length, take, drop, get_or}
-use lib.Ieee.{of_bits, nan_bits}
+use lib.Ieee.{of_bits}
 use Rattle.seqs.specs.Lists.{fold}
 use Rattle.seqs.specs.Each.{fold_append}
-use Rattle.geom.specs.Outline.{points, rings, rising}
+use Rattle.geom.specs.Outline.{points}
 use Rattle.geom.specs.OutlineLaws.{rising_turn}
-use Rattle.rules.specs.Fill.{edges}
 use Rattle.edges.specs.Table.{ring_edges}
-use Rattle.edges.specs.Span.{widen, nowhere}
+use Rattle.edges.specs.Span.{widen}
 use Rattle.edges.specs.SideLaws.{rest, rest_all, rest_next, rest_none}
 use borrow.Author.Rules.{rules}
 use Rattle.edges.proofs.rows.extent_of.Goals as goal
-
-pub float_from_bits-x : goal.float_from_bits-x
-unfolding nan_bits
-float_from_bits-x c = search rules
-
-pub float_from_bits-x-2 : goal.float_from_bits-x-2
-unfolding nan_bits
-float_from_bits-x-2 c = search rules
 
 pub loop-k-init : goal.loop-k-init
 unfolding of_bits

@@ -1,18 +1,12 @@
-use mathlib.Core.Path.{◌≡◌, sym, ap, ◌∙◌}
+use mathlib.Core.Path.{◌≡◌}
 use mathlib.Core.Bool.{true}
-use Prim.Native.Nat.{◌≤◌, ◌+◌, ◌-◌, ◌*◌, ◌/◌}
-use native.Mathlib.Omega.{arith}
-use lib.ListN.{length, take, drop, get_or}
-use lib.Ieee.{of_bits, nan_bits}
+use Prim.Native.Nat.{◌≤◌, ◌-◌, ◌/◌}
+use lib.ListN.{length, drop}
 use Rattle.seqs.specs.Lists.{fold}
-use Rattle.seqs.specs.Each.{fold_append}
-use Rattle.geom.specs.Outline.{points, rings, rising}
-use Rattle.geom.specs.OutlineLaws.{rising_turn}
+use Rattle.geom.specs.Outline.{rings, rising}
 use Rattle.rules.specs.Fill.{edges}
-use Rattle.edges.specs.Table.{ring_edges}
 use Rattle.edges.specs.Span.{widen, nowhere}
-use Rattle.edges.specs.SideLaws.{rest, rest_all, rest_next, rest_none}
-use borrow.Author.Rules.{rules}
+use Rattle.edges.specs.SideLaws.{rest}
 use Rattle.edges.proofs.rows.extent_of.Given as goal
 
 abbrev pub invariant-loop-k : goal.invariant-loop-k

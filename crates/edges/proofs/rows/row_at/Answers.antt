@@ -2,7 +2,6 @@ use lib.Ieee.{of_bits}
 use mir.Syntax.{w64}
 use mir.ValLaws.{to_z-of_z}
 use Rattle.rules.specs.Fill.{row_at}
-use borrow.Author.Rules.{rules}
 use Rattle.edges.proofs.rows.row_at.Goals as goal
 
 pub returns : goal.returns

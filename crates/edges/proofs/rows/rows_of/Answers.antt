@@ -2,7 +2,6 @@ use lib.Ieee.{of_bits}
 use Rattle.geom.specs.Outline.{rings}
 use Rattle.rules.specs.Fill.{edges}
 use Rattle.edges.specs.SpanLaws.{rows_some, rows_none}
-use borrow.Author.Rules.{rules}
 use Rattle.seqs.specs.Signed.{cast_back}
 use Rattle.edges.proofs.rows.rows_of.Goals as goal
 
@@ -13,11 +12,11 @@ returns-then-x c =
     let es = edges a.g (rings a.corners.now a.ends.now) in
     let l = cast_back c.ceil.result c.to_i64-lo.ensures in
     let h = cast_back c.floor.result c.to_i64-hi.ensures in
-    rw (l, h) (rows_some a.g es c.extent_of-x.ensures c.ceil.ensures c.floor.ensures c.to_i64-lo.ensures c.to_i64-hi.ensures c.if-x.true (rw (l, h) at c.how_many.ensures))
+    rw (l, h) (rows_some a.g es c.extent_of-x.ensures c.ceil.ensures c.floor.ensures c.to_i64-lo.ensures c.to_i64-hi.ensures c.if-x.true (rw (l, h) at c.how_many-n.ensures))
 
-pub returns : goal.returns
+pub returns-else-x : goal.returns-else-x
 unfolding of_bits
-returns c =
+returns-else-x c =
     let a = c.args in
     let es = edges a.g (rings a.corners.now a.ends.now) in
     rw (cast_back c.ceil.result c.to_i64-lo.ensures, cast_back c.floor.result c.to_i64-hi.ensures) (rows_none a.g es c.extent_of-x.ensures c.ceil.ensures c.floor.ensures c.to_i64-lo.ensures c.to_i64-hi.ensures c.if-x.false)

@@ -1,7 +1,6 @@
 use native.Mathlib.Omega.{arith}
 use borrow.Author.Tests.{lt-ltb, le-ltb}
 use Prim.Native.Nat.{◌+◌}
-use borrow.Author.Rules.{rules}
 use Rattle.edges.proofs.side.following.Goals as goal
 
 pub returns-then-n-i-gt3 : goal.returns-then-n-i-gt3

@@ -4,7 +4,6 @@ use lib.Ieee.{of_bits, round, lt}
 use Prim.Native.Nat.{◌^◌}
 use Rattle.numbers.specs.Num.{literal}
 use Rattle.rules.specs.Fill.{kept_side}
-use borrow.Author.Rules.{rules}
 use Rattle.edges.proofs.side.kept_side.Goals as goal
 
 pub returns-then-magnitude : goal.returns-then-magnitude

@@ -1,7 +1,6 @@
 use native.Mathlib.Omega.{arith}
 use lib.ListN.{length}
 use Rattle.edges.specs.SideLaws.{following_in}
-use borrow.Author.Rules.{rules}
 use Rattle.edges.proofs.side.side.Goals as goal
 
 pub corner-b-requires : goal.corner-b-requires

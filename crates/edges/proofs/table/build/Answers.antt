@@ -1,15 +1,12 @@
-use mathlib.Core.Path.{◌≡◌, refl}
-use mathlib.Core.Bool.{true}
-use Prim.Native.Nat.{◌≤◌, ◌-◌, ◌*◌, ◌/◌}
+use mathlib.Core.Path.{refl}
+use Prim.Native.Nat.{◌-◌, ◌*◌, ◌/◌}
 use native.Mathlib.Omega.{arith}
 use lib.ListN.{length, take, drop, get_or, length-take, length-drop}
-use Rattle.seqs.specs.Adding.{Adding, adding_start, adding_at, adding_step, adding_end}
-use Rattle.geom.specs.Outline.{rings, rising}
+use Rattle.seqs.specs.Adding.{adding_start, adding_at, adding_step, adding_end}
 use Rattle.geom.specs.OutlineLaws.{rising_turn}
-use Rattle.rules.specs.Fill.{edges}
 use Rattle.edges.specs.Table.{edge_block, edge_place}
 use Rattle.edges.specs.EdgeCount.{flat_few}
-use Rattle.edges.specs.SideLaws.{rest, rest_all, rest_next, rest_none}
+use Rattle.edges.specs.SideLaws.{rest_all, rest_next, rest_none}
 use borrow.Author.Rules.{rules}
 use Rattle.edges.proofs.table.build.Goals as goal
 

@@ -1,12 +1,9 @@
-use mathlib.Core.Path.{refl}
 use Prim.Native.Nat.{◌≤◌, ◌+◌, ◌-◌}
-use native.Mathlib.Omega.{arith}
 use lib.ListN.{length, drop}
-use Rattle.seqs.specs.Adding.{Adding, adding_start, adding_at, adding_step, adding_end, added_none}
+use Rattle.seqs.specs.Adding.{Adding}
 use Rattle.geom.specs.Outline.{points}
 use Rattle.edges.specs.Table.{corner, edge_block, edge_place, ring_edges}
-use Rattle.edges.specs.SideLaws.{left, left_next_lem, left_none, ring_short, ring_long, found_few}
-use borrow.Author.Rules.{rules}
+use Rattle.edges.specs.SideLaws.{left}
 use Rattle.edges.proofs.table.build_ring.Given as goal
 
 abbrev pub invariant-loop-i : goal.invariant-loop-i

@@ -1,13 +1,9 @@
+use Rattle.std.proofs.Common.{◌<◌}
 use mathlib.Core.Path.{◌≡◌, refl, sym, ap, ◌∙◌}
-use mathlib.Core.List.{◌++◌}
-use mathlib.Core.Logic.{⊎_elim}
-use Prim.Native.Nat.{◌-◌}
 use native.Mathlib.Omega.{arith}
-use borrow.Author.Tests.{not-true, not-false}
-use lib.ListN.{length, take, drop}
-use Rattle.seqs.specs.Lists.{sift, take_while, drop_while}
-use Rattle.seqs.specs.Move.{Move, move_start, move_at, move_kept, move_passed, move_read, move_end}
-use Rattle.edges.specs.Table.{edges_in}
+use lib.ListN.{length}
+use Rattle.seqs.specs.Lists.{sift}
+use Rattle.seqs.specs.Move.{move_start, move_at, move_kept, move_passed, move_read, move_end}
 use Rattle.sweep.specs.Swept.{enters, stays}
 use Rattle.sweep.proofs.Stripe.{take_stop, take_go, take_end}
 use borrow.Author.Rules.{rules}
@@ -28,9 +24,9 @@ returns-then-not-enters c =
     let a = c.args in
     let l = c.loop-i in
     let f = l.invariant.0 in
-    let h = c.loop-i-test.true in
-    let q = enters a.upward (edges_in a.e a.floats.now) a.y in
-    let p = stays a.upward (edges_in a.e a.floats.now) a.y in
+    let h : l.i < length l.l = omega (arith, f.size, c.loop-i-test.true) in
+    let q = enters a.upward a.table.now a.y in
+    let p = stays a.upward a.table.now a.y in
     let t = ap q (sym (move_read 0 f h)) ∙ sym c.enters.ensures ∙ c.if-not-enters.true in
     let s = take_stop q a.l.now l.i (omega (arith, f.size)) t in
     record { size = f.size; few = f.low; on = f.at; active = move_end (move_at (ap (sift p) s.0) f); waits = f.ahead ∙ sym s.1 ∙ l.invariant.1 }
@@ -44,20 +40,14 @@ bounds-l-j c = omega (arith, c.loop-i.invariant.0.size, c.loop-i.invariant.0.low
 pub overflow_add-j : goal.overflow_add-j
 overflow_add-j c = omega (arith, c.loop-i.invariant.0.size, c.loop-i.invariant.0.low, c.loop-i.invariant.0.at)
 
-pub overflow_add-i : goal.overflow_add-i
-overflow_add-i c = omega (arith, c.loop-i.invariant.0.size, c.loop-i.invariant.0.low, c.loop-i.invariant.0.at)
-
-pub loop-i-smaller : goal.loop-i-smaller
-loop-i-smaller c = omega (arith, c.loop-i.invariant.0.size, c.loop-i.invariant.0.low, c.loop-i.invariant.0.at)
-
 pub loop-i-preserved : goal.loop-i-preserved
 loop-i-preserved c =
     let a = c.args in
     let l = c.loop-i in
     let f = l.invariant.0 in
-    let h = c.loop-i-test.true in
-    let q = enters a.upward (edges_in a.e a.floats.now) a.y in
-    let p = stays a.upward (edges_in a.e a.floats.now) a.y in
+    let h : l.i < length l.l = omega (arith, f.size, c.loop-i-test.true) in
+    let q = enters a.upward a.table.now a.y in
+    let p = stays a.upward a.table.now a.y in
     let t = ap q (sym (move_read 0 f h)) ∙ sym c.enters.ensures ∙ c.if-not-enters.false in
     let s = take_go q a.l.now l.i (omega (arith, f.size)) t in
     let e = ap (sift p) s.0 in
@@ -72,7 +62,8 @@ returns c =
     let a = c.args in
     let l = c.loop-i in
     let f = l.invariant.0 in
-    let q = enters a.upward (edges_in a.e a.floats.now) a.y in
-    let p = stays a.upward (edges_in a.e a.floats.now) a.y in
+    let q = enters a.upward a.table.now a.y in
+    let p = stays a.upward a.table.now a.y in
+    let n : l.i ≡ length l.l = omega (arith, f.size, f.at) in
     let s = take_end q a.l.now l.i (omega (arith, f.size)) in
-    record { size = f.size; few = f.low; on = f.at; active = move_end (move_at (ap (sift p) s.0) f); waits = f.ahead ∙ sym s.1 ∙ l.invariant.1 }
+    rw (← n) record { size = omega (arith, f.size); few = f.low; on = f.at; active = move_end (move_at (ap (sift p) s.0) f); waits = f.ahead ∙ sym s.1 ∙ l.invariant.1 }

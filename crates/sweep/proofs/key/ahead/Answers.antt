@@ -1,5 +1,4 @@
 use mathlib.Core.Path.{sym, ◌∙◌}
-use borrow.Author.Rules.{rules}
 use Rattle.sweep.proofs.key.ahead.Goals as goal
 
 pub returns-then-before : goal.returns-then-before

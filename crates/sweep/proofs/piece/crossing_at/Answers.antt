@@ -1,44 +1,48 @@
-use mathlib.Core.Path.{◌≡◌, sym, ◌∙◌}
-use Prim.Native.Nat.{◌+◌, ◌-◌, ◌≤◌}
+use Rattle.std.proofs.Common.{[], length-drop}
+use Rattle.seqs.specs.Parts.{tail_lent}
+use mathlib.Core.Path.{sym, ◌∙◌}
+use Prim.Native.Nat.{◌+◌}
 use native.Mathlib.Omega.{arith}
-use lib.IntN.{nat_abs}
-use lib.ListN.{length, drop}
-use borrow.Author.Tests.{not-true, not-false}
 use Rattle.seqs.specs.Signed.{back}
-use Rattle.rules.specs.Fill.{crossings}
-use Rattle.edges.specs.Table.{edges_in}
-use Rattle.sweep.proofs.Scans.{merged_at, merge_first, merge_same, merge_other, merge_none}
+use Rattle.sweep.proofs.Scans.{merge_first, merge_same, merge_other, merge_none, lent_read, lent_in, lent_all}
 use borrow.Author.Rules.{rules}
 use Rattle.sweep.proofs.piece.crossing_at.Goals as goal
 
-pub loop-c-init : goal.loop-c-init
-loop-c-init c =
+pub loop-i-init : goal.loop-i-init
+loop-i-init c =
     let a = c.args in
-    rw (back c.way.result 1 c.way.ensures.1 (search rules)) (omega arith, omega arith, omega (arith, c.way.ensures.1), rw c.way.ensures.0 (merge_first (edges_in a.e a.floats.now) a.y a.places.now a.at (search rules) c.edge_at-t.ensures))
+    rw (back c.way.result 1 c.way.ensures.1 (search rules)) (omega arith, omega (arith, c.way.ensures.1), rw c.way.ensures.0 (merge_first a.table.now a.y a.places.now a.at (search rules) c.edge-t.ensures))
 
 pub returns-then-not-same_x : goal.returns-then-not-same_x
 returns-then-not-same_x c =
     let a = c.args in
-    let l = c.loop-c in
-    record { is = l.invariant.3 ∙ merge_other (edges_in a.e a.floats.now) a.y a.places.now l.c.x l.c.dir l.c.next (search rules) c.edge_at-u.ensures (sym c.same_x.ensures ∙ c.if-not-same_x.true); on = l.invariant.0; within = l.invariant.1; small = l.invariant.2 }
+    let l = c.loop-i in
+    let h = lent_in a.places.now a.at l.i-index l.invariant.0 c.loop-i-test.true in
+    let u = rw (lent_read a.places.now a.at l.i-index l.invariant.0) at c.edge-u.ensures in
+    record { is = l.invariant.2 ∙ merge_other a.table.now a.y a.places.now l.c.x l.c.dir l.c.next h u (sym c.same_x.ensures ∙ c.if-not-same_x.true); on = omega (arith, l.invariant.0); within = omega arith; small = l.invariant.1 }
 
 pub join-c-requires : goal.join-c-requires
-join-c-requires c = (omega (arith, c.loop-c.invariant, c.requires), omega (arith, c.loop-c.invariant, c.requires))
-
-pub loop-c-smaller : goal.loop-c-smaller
-loop-c-smaller c = rw c.join-c.ensures.0 (omega arith)
-
-pub loop-c-preserved : goal.loop-c-preserved
-loop-c-preserved c =
+join-c-requires c =
     let a = c.args in
-    let l = c.loop-c in
+    let l = c.loop-i in
+    let h = lent_in a.places.now a.at l.i-index l.invariant.0 c.loop-i-test.true in
+    (omega (arith, l.invariant.1, c.requires.0), omega (arith, c.requires.0))
+
+pub loop-i-preserved : goal.loop-i-preserved
+loop-i-preserved c =
+    let a = c.args in
+    let l = c.loop-i in
     let j = c.join-c.ensures.0 in
     let s = rw j at c.join-c.ensures.1 in
-    let e = merge_same (edges_in a.e a.floats.now) a.y a.places.now l.c.x l.c.dir l.c.next (search rules) c.edge_at-u.ensures (sym c.same_x.ensures ∙ c.if-not-same_x.false) in
-    rw j (omega (arith, l.invariant), omega arith, omega (arith, s, l.invariant.2), l.invariant.3 ∙ e)
+    let h = lent_in a.places.now a.at l.i-index l.invariant.0 c.loop-i-test.true in
+    let u = rw (lent_read a.places.now a.at l.i-index l.invariant.0) at c.edge-u.ensures in
+    let e = merge_same a.table.now a.y a.places.now l.c.x l.c.dir l.c.next h u (sym c.same_x.ensures ∙ c.if-not-same_x.false) in
+    rw j (omega (arith, l.invariant.0), omega (arith, s, l.invariant.1), l.invariant.2 ∙ e)
 
 pub returns : goal.returns
 returns c =
     let a = c.args in
-    let l = c.loop-c in
-    record { is = l.invariant.3 ∙ merge_none (edges_in a.e a.floats.now) a.y a.places.now l.c.x l.c.dir l.c.next (search rules); on = l.invariant.0; within = l.invariant.1; small = l.invariant.2 }
+    let l = c.loop-i in
+    let h = lent_all a.places.now a.at l.i-index l.invariant.0 c.requires.1 c.loop-i-test.false in
+    let n = rw (tail_lent a.places.now [] (a.at + 1), length-drop (a.at + 1) a.places.now) at l.auto.i-index-end in
+    record { is = l.invariant.2 ∙ merge_none a.table.now a.y a.places.now l.c.x l.c.dir l.c.next h; on = omega (arith, l.invariant.0); within = omega (arith, l.invariant.0, c.requires.1, n); small = l.invariant.1 }

@@ -1,11 +1,6 @@
-use mathlib.Core.Path.{◌≡◌, ap, ◌∙◌}
-use Prim.Native.Nat.{◌-◌, ◌≤◌}
+use mathlib.Core.Path.{ap, ◌∙◌}
 use native.Mathlib.Omega.{arith}
-use lib.ListN.{length}
-use lib.IntN.{nat_abs}
-use Rattle.edges.specs.Table.{edges_in}
 use Rattle.sweep.specs.declared.piece.Scan.{Scan}
-use Rattle.sweep.specs.Swept.{rest_of}
 use Rattle.sweep.proofs.Scans.{rest_none, scan_turn}
 use borrow.Author.Rules.{rules}
 use Rattle.sweep.proofs.piece.next_piece.Goals as goal
@@ -22,7 +17,7 @@ returns-then-closes c =
     let l = c.loop-s in
     let x = c.crossing_at-x.ensures in
     let r = c.pass-next.ensures in
-    let e = scan_turn a.c (edges_in a.e a.floats.now) a.places.now l.s x r.0 c.cut_ends-p.ensures c.closes.ensures in
+    let e = scan_turn a.c a.table.now a.places.now l.s x r.0 c.cut_ends-p.ensures c.closes.ensures in
     let n = ap (λ (t : Scan). t.at) r.0 in
     record { is = l.invariant.3 ∙ (rw c.if-closes.true at e); on = omega (arith, n, x.on); within = omega (arith, n, x.within); small = r.1 }
 
@@ -35,7 +30,7 @@ loop-s-preserved c =
     let l = c.loop-s in
     let x = c.crossing_at-x.ensures in
     let r = c.pass-next.ensures in
-    let e = scan_turn a.c (edges_in a.e a.floats.now) a.places.now l.s x r.0 c.cut_ends-p.ensures c.closes.ensures in
+    let e = scan_turn a.c a.table.now a.places.now l.s x r.0 c.cut_ends-p.ensures c.closes.ensures in
     let n = ap (λ (t : Scan). t.at) r.0 in
     (omega (arith, n, x.on), omega (arith, n, x.within), r.1, l.invariant.3 ∙ (rw c.if-closes.false at e))
 

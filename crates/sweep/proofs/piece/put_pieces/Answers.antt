@@ -1,62 +1,26 @@
 use mathlib.Core.Path.{refl}
-use Prim.Native.Nat.{◌+◌, ◌-◌, ◌≤◌}
 use native.Mathlib.Omega.{arith}
-use lib.ListN.{length}
-use lib.IntN.{nat_abs}
 use lib.Ieee.{of_bits}
-use Rattle.seqs.specs.Adding.{Adding, adding_start, adding_at, adding_step, adding_end, added_one}
-use Rattle.edges.specs.Table.{edges_in}
-use Rattle.edges.specs.TableLaws.{in_kept}
-use Rattle.sweep.specs.Swept.{rest_of, cuts, span_block, piece_place}
-use Rattle.sweep.specs.SweptLaws.{step_end, step_found}
+use Rattle.seqs.specs.Adding.{adding_start, adding_at, adding_step, adding_end, added_one}
+use Rattle.sweep.specs.Swept.{cuts, span_block, block_place}
 use borrow.Author.Rules.{rules}
 use Rattle.sweep.proofs.piece.put_pieces.Goals as goal
 
 pub loop-p-init : goal.loop-p-init
 unfolding cuts of_bits
-loop-p-init c = (search rules, search rules, search rules, adding_start (piece_place c.args.e) (span_block c.args.c.y) _ _ _)
-
-pub next_piece-r-requires : goal.next_piece-r-requires
-next_piece-r-requires c = (omega (arith, c.loop-p.invariant.3.run.size, c.requires), search rules, search rules, search rules)
-
-pub shape_of-floats-in_default : goal.shape_of-floats-in_default
-shape_of-floats-in_default c = c.loop-p.invariant.3.run.size
-
-pub returns-in_default : goal.returns-in_default
-returns-in_default c =
-    let a = c.args in
-    let l = c.loop-p in
-    let f = step_end a.c (edges_in a.e l.floats) a.places.now l.s c.in_default.is c.next_piece-r.ensures in
-    let q = in_kept a.e (piece_place a.e a.i) l.floats a.floats.now (omega arith) l.invariant.3.run.kept in
-    adding_end (piece_place a.e) (span_block a.c.y) (adding_at (piece_place a.e) (span_block a.c.y) (rw q at f) l.invariant.3)
-
-pub overflow_mul-e : goal.overflow_mul-e
-overflow_mul-e c = omega (arith, c.loop-p.invariant, c.requires)
-
-pub overflow_mul-n : goal.overflow_mul-n
-overflow_mul-n c = omega (arith, c.loop-p.invariant, c.requires)
-
-pub overflow_add-e : goal.overflow_add-e
-overflow_add-e c = omega (arith, c.loop-p.invariant, c.requires)
-
-pub put_piece-requires : goal.put_piece-requires
-put_piece-requires c = omega (arith, c.loop-p.invariant, c.requires)
-
-pub overflow_add-n : goal.overflow_add-n
-overflow_add-n c = omega (arith, c.loop-p.invariant, c.requires)
+loop-p-init c = (search rules, search rules, search rules, adding_start block_place (span_block c.args.c.y) _ _ _)
 
 pub loop-p-smaller : goal.loop-p-smaller
-loop-p-smaller c =
-    let n = step_found c.args.c (edges_in c.args.e c.loop-p.floats) c.args.places.now c.loop-p.s c.in-Found.is c.next_piece-r.ensures in
-    omega (arith, n.on, n.within)
+loop-p-smaller c = omega (arith, c.in-Some.ensures.on, c.in-Some.ensures.within)
 
 pub loop-p-preserved : goal.loop-p-preserved
 loop-p-preserved c =
-    let a = c.args in
     let l = c.loop-p in
-    let x = step_found a.c (edges_in a.e l.floats) a.places.now l.s c.in-Found.is c.next_piece-r.ensures in
-    let q = in_kept a.e (piece_place a.e a.i) l.floats a.floats.now (omega arith) l.invariant.3.run.kept in
-    let m = rw q at x in
-    let at = piece_place a.e in
-    let enc = span_block a.c.y in
-    (m.within, m.small, omega (arith, m.on), adding_step at enc 3 (λ p. refl) (λ n m. omega arith) _ _ (adding_at at enc m.is l.invariant.3) (added_one at enc 3 (λ p. refl) (λ n m. omega arith) c.put_piece.ensures))
+    let m = c.in-Some.ensures in
+    let enc = span_block c.args.c.y in
+    (m.within, m.small, omega (arith, m.on), adding_step block_place enc 3 (λ p. refl) (λ n m. omega arith) _ _ (adding_at block_place enc m.is l.invariant.3) (added_one block_place enc 3 (λ p. refl) (λ n m. omega arith) c.put_piece.ensures))
+
+pub returns : goal.returns
+returns c =
+    let enc = span_block c.args.c.y in
+    adding_end block_place enc (adding_at block_place enc c.in_default.ensures c.loop-p.invariant.3)

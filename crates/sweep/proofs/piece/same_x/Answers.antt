@@ -1,5 +1,4 @@
 use Rattle.rules.specs.Fill.{same_x}
-use borrow.Author.Rules.{rules}
 use Rattle.sweep.proofs.piece.same_x.Goals as goal
 
 pub returns : goal.returns

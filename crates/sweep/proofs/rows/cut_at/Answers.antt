@@ -6,7 +6,6 @@ use Rattle.rules.specs.Fill.{shrink, min_row}
 use Rattle.edges.specs.Span.{row_number}
 use Rattle.edges.specs.SpanLaws.{number_fits}
 use Rattle.sweep.specs.Swept.{cut_at}
-use borrow.Author.Rules.{rules}
 use Rattle.sweep.proofs.rows.cut_at.Goals as goal
 
 pub returns : goal.returns

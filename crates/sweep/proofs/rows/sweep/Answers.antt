@@ -1,33 +1,21 @@
-use mathlib.Core.Path.{sym}
-use Prim.Native.Nat.{◌*◌}
-use native.Mathlib.Omega.{arith}
-use lib.Seq.{length-take-le}
-use Rattle.edges.specs.Table.{edges_in}
-use Rattle.sweep.specs.Swept.{numbers}
-use Rattle.sweep.proofs.Stripe.{waited_size, laid_waited}
-use borrow.Author.Rules.{rules}
+use Rattle.std.proofs.Common.{arith}
+use Rattle.edges.specs.TableLaws.{in_length}
+use Rattle.sweep.proofs.Split.{same_edges, laid_behind}
 use Rattle.sweep.proofs.rows.sweep.Goals as goal
 
-pub overflow_mul-e : goal.overflow_mul-e
-overflow_mul-e c = omega (arith, c.requires.0.edges)
-
-pub slice_bounds-wait-end : goal.slice_bounds-wait-end
-slice_bounds-wait-end c = omega (arith, c.requires.0.wholes)
-
-pub slice_bounds-wait-end-2 : goal.slice_bounds-wait-end-2
-slice_bounds-wait-end-2 c = sym (length-take-le _ _ (omega (arith, c.requires.0.wholes)))
-
-pub wait-requires : goal.wait-requires
-wait-requires c =
+pub lay-requires : goal.lay-requires
+lay-requires c =
     let a = c.args in
-    (record { room = rw (length-take-le (2 * a.e) a.wholes.now (omega (arith, c.requires.0.wholes))) (omega arith); strict = c.requires.1 }, omega (arith, c.requires.0.floats))
-
-pub all_rows-requires : goal.all_rows-requires
-all_rows-requires c =
-    let a = c.args in
-    record { floats = c.requires.0.floats; wholes = omega (arith, c.requires.0.wholes, waited_size a.e a.wholes.now c.requires.0.wholes c.wait.ensures); edges = c.requires.0.edges; rows = c.requires.0.rows }
+    let r = c.requires.0 in
+    let n = in_length a.e a.floats.now in
+    rw (same_edges a.e a.floats.now c.split_at_mut-edges.ensures.front c.new.ensures)
+    record { room = omega (arith, n, c.split_at_mut-places.ensures.front_len); edges = omega (arith, n, r.edges); rows = r.rows; strict = c.requires.1 }
 
 pub returns : goal.returns
 returns c =
     let a = c.args in
-    laid_waited a.upward a.rule a.g (edges_in a.e a.floats.now) a.e _ (numbers a.w a.upward 0) a.wholes.now c.requires.0.wholes c.wait.ensures c.all_rows.ensures
+    let r = c.requires.0 in
+    let s = c.split_at_mut-edges.ensures in
+    let p = c.split_at_mut-places.ensures in
+    let l = rw (same_edges a.e a.floats.now s.front c.new.ensures, s.back, p.back) at c.lay.ensures in
+    laid_behind a.e _ _ _ r.floats r.wholes s.front (omega (arith, c.lay.auto.places, p.front_len)) l

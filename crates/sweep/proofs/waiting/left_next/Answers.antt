@@ -1,22 +1,19 @@
-use Rattle.seqs.specs.Reads.{part_next, part_none}
-use Rattle.sweep.specs.Merge.{left_next}
-use borrow.Author.Rules.{rules}
+use Rattle.std.proofs.Common.{sym}
+use Rattle.sweep.specs.Swept.{by}
+use Rattle.sweep.specs.MergeLaws.{next_right, next_left, next_by}
 use Rattle.sweep.proofs.waiting.left_next.Goals as goal
 
-pub returns-then-mid-i : goal.returns-then-mid-i
-unfolding left_next
-returns-then-mid-i c =
+pub returns-in_default : goal.returns-in_default
+returns-in_default c =
     let a = c.args in
-    rw (part_none a.l.now a.mid a.i c.if-mid-i.true c.requires.0)
+    sym (next_right (by a.key a.table.now) a.a.now a.b.now c.in_default.ensures.value)
 
-pub returns-then-end-j : goal.returns-then-end-j
-unfolding left_next
-returns-then-end-j c =
+pub returns-in_default-first : goal.returns-in_default-first
+returns-in_default-first c =
     let a = c.args in
-    rw (part_next a.l.now a.mid a.i 0 c.if-mid-i.false c.requires.0, part_none a.l.now a.end a.j c.if-end-j.true c.requires.1)
+    sym (next_left (by a.key a.table.now) a.a.now a.b.now c.in-Some.field-0.now c.in-Some.ensures.value c.in_default-first.ensures.value)
 
 pub returns : goal.returns
-unfolding left_next
 returns c =
     let a = c.args in
-    rw (part_next a.l.now a.mid a.i 0 c.if-mid-i.false c.requires.0, part_next a.l.now a.end a.j 0 c.if-end-j.false c.requires.1) (rw (c.key_of.ensures, c.key_of-2.ensures) at c.ahead.ensures)
+    rw (next_by (by a.key a.table.now) a.a.now a.b.now c.in-Some.field-0.now c.in-Some-first.field-0.now c.in-Some.ensures.value c.in-Some-first.ensures.value, ← c.key_of.ensures, ← c.key_of-2.ensures) c.ahead.ensures
