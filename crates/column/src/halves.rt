@@ -18,7 +18,6 @@ use pairing::store::put_rails;
 use passes::top::put_stitches;
 use refusal::{DONE, ROOM, SIZE, Sewn, WORK};
 use satin::rails::{BOTH_RAILS, ends_of, need};
-use satin::slices::zero;
 use satin::underlay::{count_underlay, put_underlay};
 use satinrules::Satin;
 
@@ -120,14 +119,14 @@ fn column_along(
     }
     let p = passes_of(work, rails, a, b, sync, ends, g);
     if work.len() < need(a, b, sync, column_most(p)) {
-        zero(work);
+        work.fill(0.0);
         return Sewn {
             answer: WORK,
             points: 0,
         };
     }
     let r = sew_halves(work, out, rails, a, b, sync, ends, p, g);
-    zero(work);
+    work.fill(0.0);
     r
 }
 

@@ -12,7 +12,6 @@ pub mod turning;
 use crate::halves::sewn_column;
 use refusal::{DONE, SETTING, Sewn};
 use satin::rails::{few_corners, rails_refusal};
-use satin::slices::zero;
 use satinrules::{Satin, good_satin};
 
 // A satin column between two rails: underlay, then the top.
@@ -37,7 +36,7 @@ pub fn column(
         };
     }
     if few_corners(a, b) {
-        zero(work);
+        work.fill(0.0);
         return Sewn {
             answer: DONE,
             points: 0,

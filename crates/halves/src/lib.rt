@@ -12,7 +12,6 @@ use crate::under::sewn_underlay;
 use column::topping::after_zigzag;
 use refusal::{DONE, SETTING, Sewn};
 use satin::rails::{few_corners, rails_refusal};
-use satin::slices::zero;
 use satinrules::{Satin, good_satin};
 
 // A refusal, or DONE with how many points were sewn and whether the thread ends at the far end.
@@ -68,7 +67,7 @@ pub fn underlay(
         };
     }
     if few_corners(a, b) {
-        zero(work);
+        work.fill(0.0);
         return Underlaid {
             answer: DONE,
             points: 0,
@@ -102,7 +101,7 @@ pub fn top(
         };
     }
     if few_corners(a, b) {
-        zero(work);
+        work.fill(0.0);
         return Sewn {
             answer: DONE,
             points: 0,

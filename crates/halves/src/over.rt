@@ -15,7 +15,6 @@ use pairing::store::{lay_pairs, put_rails};
 use passes::top::{put_stitches, spaced};
 use refusal::{DONE, ROOM, SIZE, Sewn, WORK};
 use satin::rails::{BOTH_RAILS, ends_of, need};
-use satin::slices::zero;
 use satinrules::Satin;
 
 // The top over the t pairs at the front of the working slice, to the front of out; or ROOM and nothing. The stitches stand behind the pairs.
@@ -66,14 +65,14 @@ fn top_along(
     let pass = pass_along(length, spaced(style, g.spacing));
     let t = lay_pairs(work, rails, a, b, sync, ends, pass);
     if work.len() < need(a, b, sync, t) {
-        zero(work);
+        work.fill(0.0);
         return Sewn {
             answer: WORK,
             points: 0,
         };
     }
     let r = sew_top(work, out, t, g, far);
-    zero(work);
+    work.fill(0.0);
     r
 }
 

@@ -15,7 +15,6 @@ use pairing::places::total;
 use pairing::store::put_rails;
 use refusal::{DONE, ROOM, SIZE, Sewn, WORK};
 use satin::rails::{BOTH_RAILS, ends_of, need};
-use satin::slices::zero;
 use satin::underlay::{count_underlay, put_underlay};
 use satinrules::Satin;
 
@@ -73,14 +72,14 @@ fn underlay_along(
     }
     let u = underlay_passes(sync, ends, length, g);
     if work.len() < need(a, b, sync, underlay_most(u)) {
-        zero(work);
+        work.fill(0.0);
         return Sewn {
             answer: WORK,
             points: 0,
         };
     }
     let r = sew_underlay(work, out, rails, a, b, sync, ends, u, g);
-    zero(work);
+    work.fill(0.0);
     r
 }
 

@@ -6,12 +6,10 @@ ghost use Rattle.satinrules.specs.Calls.{split_sewn, split_output, s_stitch_sewn
 
 pub mod matched;
 pub mod rails;
-pub mod slices;
 pub mod underlay;
 
 use crate::matched::sewn_pairs;
 use crate::rails::{few_corners, rails_refusal};
-use crate::slices::zero;
 use limits::{good_line, good_numbers, good_split, good_step};
 use refusal::{DONE, LAYOUT, NUMBER, SETTING, Sewn};
 
@@ -81,7 +79,7 @@ pub fn pairs(
         };
     }
     if few_corners(a, b) {
-        zero(work);
+        work.fill(0.0);
         return Sewn {
             answer: DONE,
             points: 0,

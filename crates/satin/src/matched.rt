@@ -8,7 +8,6 @@ ghost use Rattle.pairing.specs.Store.{Laid, Sound};
 ghost use Rattle.satin.specs.Passed.{pairs_passed};
 
 use crate::rails::{BOTH_RAILS, ends_of, need};
-use crate::slices::{copy, zero};
 use limits::MOST_PAIRS;
 use pairing::places::pass_of;
 use pairing::store::{lay_pairs, put_rails};
@@ -37,21 +36,21 @@ fn pairs_along(
     }
     let n = lay_pairs(work, rails, a, b, sync, ends, pass);
     if work.len() < need(a, b, sync, n) {
-        zero(work);
+        work.fill(0.0);
         return Sewn {
             answer: WORK,
             points: 0,
         };
     }
     if out.len() < 4 * n {
-        zero(work);
+        work.fill(0.0);
         return Sewn {
             answer: ROOM,
             points: 0,
         };
     }
-    copy(out, &work[0..4 * n]);
-    zero(work);
+    out[..4 * n].copy_from_slice(&work[..4 * n]);
+    work.fill(0.0);
     Sewn {
         answer: DONE,
         points: (2 * n) as u64,

@@ -1,4 +1,6 @@
 -- `column` meets its contract: each answer follows from the tests on the way to it. Assumes nothing.
+use borrow.Author.Rules.{rules}
+use lib.Ieee.{of_bits}
 use mathlib.Core.Path.{refl, sym, ◌∙◌}
 use native.Mathlib.Omega.{arith}
 use lib.ListN.{length}
@@ -25,13 +27,13 @@ returns-then-not-good_satin c =
     rw (refused_setting a.a.now a.b.now a.sync.now a.g (length a.work.now) (length a.out.now) r (sym c.good_satin.ensures ∙ c.if-not-good_satin.true)) (refl, refl, refl)
 
 pub returns-then-few_corners : goal.returns-then-few_corners
-unfolding column_output column_sewn column_work flat
+unfolding column_output column_sewn column_work flat of_bits
 returns-then-few_corners c =
     let a = c.args in
     let r = sym c.rails_refusal-answer.ensures ∙ c.if-answer-ne-DONE.false in
     let s = sym c.good_satin.ensures ∙ c.if-not-good_satin.false in
     let f = sym (few_any a.a.now a.b.now a.sync.now) ∙ sym c.few_corners.ensures ∙ c.if-few_corners.true in
-    rw (passed_few a.a.now a.b.now a.sync.now a.g (length a.work.now) (length a.out.now) r s f, no_column (rails_of a.a.now a.b.now a.sync.now) a.g f) (refl, refl, c.zero.ensures)
+    rw (passed_few a.a.now a.b.now a.sync.now a.g (length a.work.now) (length a.out.now) r s f, no_column (rails_of a.a.now a.b.now a.sync.now) a.g f) (refl, refl, (c.fill.ensures.after (λ y h. search rules)))
 
 pub sewn_column-requires : goal.sewn_column-requires
 sewn_column-requires c =

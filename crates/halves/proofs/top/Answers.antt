@@ -1,8 +1,9 @@
 -- `top` meets its contract: each answer follows from the tests on the way to it. Assumes nothing.
+use lib.Ieee.{of_bits}
 use mathlib.Core.Path.{refl, sym, ◌∙◌}
 use native.Mathlib.Omega.{arith}
 use lib.ListN.{length}
-use borrow.Author.Tests.{not-true, not-false, ne_eqb}
+use borrow.Author.Tests.{ne_eqb}
 use Rattle.geom.specs.Sewing.{flat}
 use Rattle.satinrules.specs.Calls.{rails_of}
 use Rattle.satinrules.specs.CallLaws.{no_top}
@@ -27,13 +28,13 @@ returns-then-not-good_satin c =
     rw (setting_over a.a.now a.b.now a.sync.now a.g (length a.work.now) (length a.out.now) a.far r (sym c.good_satin.ensures ∙ c.if-not-good_satin.true)) (refl, refl, refl)
 
 pub returns-then-few_corners : goal.returns-then-few_corners
-unfolding flat top_output top_sewn top_work
+unfolding flat top_output top_sewn top_work of_bits
 returns-then-few_corners c =
     let a = c.args in
     let r = sym c.rails_refusal-answer.ensures ∙ c.if-answer-ne-DONE.false in
     let s = sym c.good_satin.ensures ∙ c.if-not-good_satin.false in
     let f = sym (few_any a.a.now a.b.now a.sync.now) ∙ sym c.few_corners.ensures ∙ c.if-few_corners.true in
-    rw (few_over a.a.now a.b.now a.sync.now a.g (length a.work.now) (length a.out.now) a.far r s f, no_top (rails_of a.a.now a.b.now a.sync.now) a.g f a.far) (refl, refl, c.zero.ensures)
+    rw (few_over a.a.now a.b.now a.sync.now a.g (length a.work.now) (length a.out.now) a.far r s f, no_top (rails_of a.a.now a.b.now a.sync.now) a.g f a.far) (refl, refl, (c.fill.ensures.after (λ y h. search rules)))
 
 pub sewn_top-requires : goal.sewn_top-requires
 sewn_top-requires c =

@@ -1,8 +1,9 @@
 -- `underlay` meets its contract: each answer follows from the tests on the way to it. Assumes nothing.
+use lib.Ieee.{of_bits}
 use mathlib.Core.Path.{refl, sym, ◌∙◌}
 use native.Mathlib.Omega.{arith}
 use lib.ListN.{length}
-use borrow.Author.Tests.{not-true, not-false, ne_eqb}
+use borrow.Author.Tests.{ne_eqb}
 use Rattle.geom.specs.Sewing.{flat}
 use Rattle.satinrules.specs.Column.{underlay, after_zigzag}
 use Rattle.satinrules.specs.Calls.{rails_of}
@@ -29,13 +30,13 @@ returns-then-not-good_satin c =
     rw (setting_under a.a.now a.b.now a.sync.now a.g (length a.work.now) (length a.out.now) r (sym c.good_satin.ensures ∙ c.if-not-good_satin.true)) (refl, refl, refl)
 
 pub returns-then-few_corners : goal.returns-then-few_corners
-unfolding flat underlay_output underlay_said underlay_work
+unfolding flat underlay_output underlay_said underlay_work of_bits
 returns-then-few_corners c =
     let a = c.args in
     let r = sym c.rails_refusal-answer.ensures ∙ c.if-answer-ne-DONE.false in
     let s = sym c.good_satin.ensures ∙ c.if-not-good_satin.false in
     let f = sym (few_any a.a.now a.b.now a.sync.now) ∙ sym c.few_corners.ensures ∙ c.if-few_corners.true in
-    rw (few_under a.a.now a.b.now a.sync.now a.g (length a.work.now) (length a.out.now) r s f, no_underlay (rails_of a.a.now a.b.now a.sync.now) a.g f, far_none (rails_of a.a.now a.b.now a.sync.now) a.g f) (refl, refl, c.zero.ensures)
+    rw (few_under a.a.now a.b.now a.sync.now a.g (length a.work.now) (length a.out.now) r s f, no_underlay (rails_of a.a.now a.b.now a.sync.now) a.g f, far_none (rails_of a.a.now a.b.now a.sync.now) a.g f) (refl, refl, (c.fill.ensures.after (λ y h. search rules)))
 
 pub sewn_underlay-r-requires : goal.sewn_underlay-r-requires
 sewn_underlay-r-requires c =

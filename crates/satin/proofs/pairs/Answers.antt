@@ -2,7 +2,8 @@
 use mathlib.Core.Path.{refl, sym, ap, ◌∙◌}
 use native.Mathlib.Omega.{arith}
 use lib.ListN.{length, length-replicate}
-use borrow.Author.Tests.{not-true, not-false, ne_eqb}
+use borrow.Author.Tests.{ne_eqb}
+use lib.Ieee.{of_bits}
 use Rattle.geom.specs.Sewing.{flat}
 use Rattle.satinrules.specs.Calls.{pairs_sewn, pairs_output, pairs_work}
 use Rattle.satin.specs.PassedLaws.{rails_small, refused_rails, refused_step, passed_few, passed_on, few_any, few_none, worked_kept, sound}
@@ -24,16 +25,16 @@ returns-then-not-good_step c =
     rw (refused_step a.a.now a.b.now a.sync.now a.step (length a.work.now) (length a.out.now) r (sym c.good_step.ensures ∙ c.if-not-good_step.true)) (refl, refl, refl)
 
 pub shape_of-work-then-few_corners : goal.shape_of-work-then-few_corners
-shape_of-work-then-few_corners c = ap length c.zero.ensures ∙ length-replicate _ _
+shape_of-work-then-few_corners c = ap length (c.fill.ensures.after (λ y h. search rules)) ∙ length-replicate _ _
 
 pub returns-then-few_corners : goal.returns-then-few_corners
-unfolding flat pairs_output pairs_sewn pairs_work
+unfolding flat pairs_output pairs_sewn pairs_work of_bits
 returns-then-few_corners c =
     let a = c.args in
     let r = sym c.rails_refusal-answer.ensures ∙ c.if-answer-ne-DONE.false in
     let s = sym c.good_step.ensures ∙ c.if-not-good_step.false in
     let f = sym (few_any a.a.now a.b.now a.sync.now) ∙ sym c.few_corners.ensures ∙ c.if-few_corners.true in
-    rw (passed_few a.a.now a.b.now a.sync.now a.step (length a.work.now) (length a.out.now) r s f, few_none a.a.now a.b.now a.sync.now a.step f) (refl, refl, c.zero.ensures)
+    rw (passed_few a.a.now a.b.now a.sync.now a.step (length a.work.now) (length a.out.now) r s f, few_none a.a.now a.b.now a.sync.now a.step f) (refl, refl, (c.fill.ensures.after (λ y h. search rules)))
 
 pub sewn_pairs-requires : goal.sewn_pairs-requires
 sewn_pairs-requires c =

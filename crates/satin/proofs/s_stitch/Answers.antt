@@ -1,8 +1,6 @@
 -- `s_stitch` meets its contract: each answer follows from the tests on the way to it. Assumes nothing.
 use mathlib.Core.Path.{refl, sym, ◌∙◌}
-use borrow.Author.Tests.{not-true, not-false}
 use Rattle.satinrules.specs.Calls.{s_stitch_refusal, s_stitch_sewn, s_stitch_output}
-use borrow.Author.Rules.{rules}
 use Rattle.satin.proofs.s_stitch.Goals as goal
 
 pub returns-then-not-good_line : goal.returns-then-not-good_line

@@ -1,8 +1,6 @@
 -- `split_long` meets its contract: each answer follows from the tests on the way to it. Assumes nothing.
 use mathlib.Core.Path.{refl, sym, ◌∙◌}
-use borrow.Author.Tests.{not-true, not-false}
 use Rattle.satinrules.specs.Calls.{split_refusal, split_sewn, split_output}
-use borrow.Author.Rules.{rules}
 use Rattle.satin.proofs.split_long.Goals as goal
 
 pub returns-then-not-good_line : goal.returns-then-not-good_line

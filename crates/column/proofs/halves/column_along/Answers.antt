@@ -1,4 +1,6 @@
 -- `column_along` meets its contract: which of SIZE, WORK, ROOM and DONE it is. Assumes nothing.
+use borrow.Author.Rules.{rules}
+use lib.Ieee.{of_bits}
 use mathlib.Core.Path.{refl, sym, ap, ◌∙◌}
 use native.Mathlib.Omega.{arith}
 use lib.ListN.{length, length-replicate}
@@ -25,16 +27,17 @@ need-requires c =
     rw (c.column_most.ensures, c.passes_of-p.ensures.0) (most_small c.ends_of-ends.result (points a.sync.now) a.g ok)
 
 pub shape_of-work-then-work-need : goal.shape_of-work-then-work-need
-shape_of-work-then-work-need c = ap length c.zero.ensures ∙ length-replicate _ _ ∙ c.passes_of-p.ensures.1
+shape_of-work-then-work-need c = ap length (c.fill.ensures.after (λ y h. search rules)) ∙ length-replicate _ _ ∙ c.passes_of-p.ensures.1
 
 pub returns-then-work-need : goal.returns-then-work-need
+unfolding of_bits
 returns-then-work-need c =
     let a = c.args in
     let ok = sym c.column_sized.ensures ∙ c.if-not-column_sized.false in
     let sizes = sym (sized_is a.a.now a.b.now a.sync.now a.g c.ends_of-ends.ensures (pass_steps a.g)) ∙ ok in
     let most = most_is a.a.now a.b.now a.sync.now a.g c.ends_of-ends.ensures c.requires.1 c.passes_of-p.ensures.0 ok in
     let k = c.need.ensures ∙ ap (need (rails_of a.a.now a.b.now a.sync.now)) (c.column_most.ensures ∙ sym most) in
-    rw (column_work_lem a.a.now a.b.now a.sync.now a.g (length a.work.now) (length a.out.now) c.requires.1 sizes (rw (k, c.passes_of-p.ensures.1) at c.if-work-need.true)) (refl, refl, rw c.passes_of-p.ensures.1 at c.zero.ensures)
+    rw (column_work_lem a.a.now a.b.now a.sync.now a.g (length a.work.now) (length a.out.now) c.requires.1 sizes (rw (k, c.passes_of-p.ensures.1) at c.if-work-need.true)) (refl, refl, rw c.passes_of-p.ensures.1 at (c.fill.ensures.after (λ y h. search rules)))
 
 pub sew_halves-r-requires : goal.sew_halves-r-requires
 sew_halves-r-requires c =
@@ -45,9 +48,10 @@ sew_halves-r-requires c =
     (c.requires.0, ready_same w c.passes_of-p.ensures.1, c.passes_of-p.ensures.2 (omega (arith, w.room_t)))
 
 pub shape_of-work : goal.shape_of-work
-shape_of-work c = ap length c.zero-2.ensures ∙ length-replicate _ _ ∙ c.sew_halves-r.ensures.2 ∙ c.passes_of-p.ensures.1
+shape_of-work c = ap length (c.fill-2.ensures.after (λ y h. search rules)) ∙ length-replicate _ _ ∙ c.sew_halves-r.ensures.2 ∙ c.passes_of-p.ensures.1
 
 pub returns : goal.returns
+unfolding of_bits
 returns c =
     let a = c.args in
     let ok = sym c.column_sized.ensures ∙ c.if-not-column_sized.false in
@@ -57,4 +61,4 @@ returns c =
     let h = c.sew_halves-r.ensures in
     let k = c.need.ensures ∙ ap (need r) (c.column_most.ensures ∙ sym most) in
     rw (column_fitted a.a.now a.b.now a.sync.now a.g (length a.work.now) (length a.out.now) c.requires.1 sizes (rw (k, c.passes_of-p.ensures.1) at c.if-work-need.false))
-    (h.0, h.1, (rw (h.2, c.passes_of-p.ensures.1) at c.zero-2.ensures) ∙ sym (worked_fitted (column r a.g) (length a.out.now) a.work.now))
+    (h.0, h.1, (rw (h.2, c.passes_of-p.ensures.1) at (c.fill-2.ensures.after (λ y h. search rules))) ∙ sym (worked_fitted (column r a.g) (length a.out.now) a.work.now))

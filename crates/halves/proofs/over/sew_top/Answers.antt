@@ -6,7 +6,6 @@ use Rattle.seqs.specs.Slices.{capped}
 use Rattle.geom.specs.SewingLaws.{not_fitted, counted, fits, is_fitted, flat_length}
 use Rattle.halves.specs.Sewing.{top_over}
 use Rattle.halves.specs.SewingLaws.{behind_size, over_path, over_count}
-use borrow.Author.Rules.{rules}
 use Rattle.halves.proofs.over.sew_top.Goals as goal
 
 pub put_stitches-requires : goal.put_stitches-requires

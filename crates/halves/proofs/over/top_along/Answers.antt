@@ -1,9 +1,9 @@
 -- `top_along` meets its contract: which of SIZE, WORK, ROOM and DONE it is, and the top goes over the pairs that were laid. Assumes nothing.
+use lib.Ieee.{of_bits}
 use mathlib.Core.Path.{refl, sym, ap, ◌∙◌}
 use Prim.Native.Nat.{◌≤◌}
 use native.Mathlib.Omega.{arith}
 use lib.ListN.{length, length-replicate}
-use borrow.Author.Tests.{not-true, not-false}
 use Rattle.geom.specs.Outline.{points}
 use Rattle.satinrules.specs.Column.{top}
 use Rattle.satinrules.specs.Calls.{rails_of, top_steps, need}
@@ -39,9 +39,10 @@ need-requires c =
     rw (c.lay_pairs-t.ensures.0, c.pass_along-pass.ensures ∙ pass_by c.ends_of-ends.result (points a.sync.now) _ c.total-length.ensures, c.spaced.ensures) (top_small c.ends_of-ends.result (points a.sync.now) a.g ok)
 
 pub shape_of-work-then-work-need : goal.shape_of-work-then-work-need
-shape_of-work-then-work-need c = ap length c.zero.ensures ∙ length-replicate _ _ ∙ c.lay_pairs-t.ensures.1
+shape_of-work-then-work-need c = ap length (c.fill.ensures.after (λ y h. search rules)) ∙ length-replicate _ _ ∙ c.lay_pairs-t.ensures.1
 
 pub returns-then-work-need : goal.returns-then-work-need
+unfolding of_bits
 returns-then-work-need c =
     let a = c.args in
     let ok = sym c.top_sized.ensures ∙ c.if-not-top_sized.false in
@@ -49,7 +50,7 @@ returns-then-work-need c =
     let l = c.lay_pairs-t.ensures in
     let n = top_most a.a.now a.b.now a.sync.now a.g c.ends_of-ends.ensures c.requires.1 asked l.0 ok in
     let k = c.need.ensures ∙ ap (need (rails_of a.a.now a.b.now a.sync.now)) (sym n) in
-    rw (top_work_lem a.a.now a.b.now a.sync.now a.g (length a.work.now) (length a.out.now) c.requires.1 a.far (sym (sized_is a.a.now a.b.now a.sync.now a.g c.ends_of-ends.ensures (top_steps a.g)) ∙ ok) (rw (k, l.1) at c.if-work-need.true)) (refl, refl, rw l.1 at c.zero.ensures)
+    rw (top_work_lem a.a.now a.b.now a.sync.now a.g (length a.work.now) (length a.out.now) c.requires.1 a.far (sym (sized_is a.a.now a.b.now a.sync.now a.g c.ends_of-ends.ensures (top_steps a.g)) ∙ ok) (rw (k, l.1) at c.if-work-need.true)) (refl, refl, rw l.1 at (c.fill.ensures.after (λ y h. search rules)))
 
 pub sew_top-r-requires : goal.sew_top-r-requires
 sew_top-r-requires c =
@@ -62,9 +63,10 @@ sew_top-r-requires c =
     (fit_some f, small, need_room a.a.now a.b.now a.sync.now _ _ (rw c.need.ensures at c.if-work-need.false))
 
 pub shape_of-work : goal.shape_of-work
-shape_of-work c = ap length c.zero-2.ensures ∙ length-replicate _ _ ∙ c.sew_top-r.ensures.2 ∙ c.lay_pairs-t.ensures.1
+shape_of-work c = ap length (c.fill-2.ensures.after (λ y h. search rules)) ∙ length-replicate _ _ ∙ c.sew_top-r.ensures.2 ∙ c.lay_pairs-t.ensures.1
 
 pub returns : goal.returns
+unfolding of_bits
 returns c =
     let a = c.args in
     let ok = sym c.top_sized.ensures ∙ c.if-not-top_sized.false in
@@ -76,4 +78,4 @@ returns c =
     let room = need_room a.a.now a.b.now a.sync.now _ _ (rw c.need.ensures at c.if-work-need.false) in
     let h = rw (over_is a.g f a.far c.lay_pairs-t.new.w (l.2 (omega (arith, room, l.0, l.1)))) at c.sew_top-r.ensures in
     rw (top_fitted a.a.now a.b.now a.sync.now a.g (length a.work.now) (length a.out.now) c.requires.1 a.far (sym (sized_is a.a.now a.b.now a.sync.now a.g c.ends_of-ends.ensures (top_steps a.g)) ∙ ok) (rw (k, l.1) at c.if-work-need.false))
-    (h.0, h.1, (rw (h.2, l.1) at c.zero-2.ensures) ∙ sym (worked_fitted (top a.far (rails_of a.a.now a.b.now a.sync.now) a.g) (length a.out.now) a.work.now))
+    (h.0, h.1, (rw (h.2, l.1) at (c.fill-2.ensures.after (λ y h. search rules))) ∙ sym (worked_fitted (top a.far (rails_of a.a.now a.b.now a.sync.now) a.g) (length a.out.now) a.work.now))

@@ -6,7 +6,6 @@ use Rattle.satinrules.specs.Column.{underlay}
 use Rattle.satinrules.specs.Calls.{rails_of}
 use Rattle.satin.specs.UnderlayLaws.{underlay_count_lem}
 use Rattle.halves.specs.SewingLaws.{too_many, has_room, all_fit}
-use borrow.Author.Rules.{rules}
 use Rattle.halves.proofs.under.sew_underlay.Goals as goal
 
 pub count_underlay-points-requires : goal.count_underlay-points-requires

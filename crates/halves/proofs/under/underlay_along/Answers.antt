@@ -1,7 +1,7 @@
 -- `underlay_along` meets its contract: which of SIZE, WORK, ROOM and DONE it is. Assumes nothing.
+use lib.Ieee.{of_bits}
 use mathlib.Core.Path.{refl, sym, ap, ◌∙◌}
 use lib.ListN.{length, length-replicate}
-use borrow.Author.Tests.{not-true, not-false}
 use Rattle.geom.specs.Outline.{points}
 use Rattle.satinrules.specs.Column.{underlay}
 use Rattle.satinrules.specs.Calls.{rails_of, underlay_steps, need}
@@ -31,14 +31,15 @@ need-requires c =
     rw (c.underlay_most.ensures, c.underlay_passes-u.ensures) (underlay_small c.ends_of-ends.result (points a.sync.now) a.g (sym c.underlay_sized.ensures ∙ c.if-not-underlay_sized.false))
 
 pub shape_of-work-then-work-need : goal.shape_of-work-then-work-need
-shape_of-work-then-work-need c = ap length c.zero.ensures ∙ length-replicate _ _
+shape_of-work-then-work-need c = ap length (c.fill.ensures.after (λ y h. search rules)) ∙ length-replicate _ _
 
 pub returns-then-work-need : goal.returns-then-work-need
+unfolding of_bits
 returns-then-work-need c =
     let a = c.args in
     let ok = sym c.underlay_sized.ensures ∙ c.if-not-underlay_sized.false in
     let k = c.need.ensures ∙ ap (need (rails_of a.a.now a.b.now a.sync.now)) (c.underlay_most.ensures ∙ sym (underlay_most a.a.now a.b.now a.sync.now a.g c.ends_of-ends.ensures c.requires.1 c.underlay_passes-u.ensures ok)) in
-    rw (underlay_work_lem a.a.now a.b.now a.sync.now a.g (length a.work.now) (length a.out.now) c.requires.1 (sym (sized_is a.a.now a.b.now a.sync.now a.g c.ends_of-ends.ensures (underlay_steps a.g)) ∙ ok) (rw k at c.if-work-need.true)) (refl, refl, c.zero.ensures)
+    rw (underlay_work_lem a.a.now a.b.now a.sync.now a.g (length a.work.now) (length a.out.now) c.requires.1 (sym (sized_is a.a.now a.b.now a.sync.now a.g c.ends_of-ends.ensures (underlay_steps a.g)) ∙ ok) (rw k at c.if-work-need.true)) (refl, refl, (c.fill.ensures.after (λ y h. search rules)))
 
 pub sew_underlay-r-requires : goal.sew_underlay-r-requires
 sew_underlay-r-requires c =
@@ -48,13 +49,14 @@ sew_underlay-r-requires c =
     (c.requires.0, under_ready a.a.now a.b.now a.sync.now a.g c.ends_of-ends.ensures c.requires.1 c.underlay_passes-u.ensures ok (length a.work.now) (need_room a.a.now a.b.now a.sync.now (most_under c.underlay_passes-u.result) (length a.work.now) (rw k at c.if-work-need.false)))
 
 pub shape_of-work : goal.shape_of-work
-shape_of-work c = ap length c.zero-2.ensures ∙ length-replicate _ _ ∙ c.sew_underlay-r.ensures.2
+shape_of-work c = ap length (c.fill-2.ensures.after (λ y h. search rules)) ∙ length-replicate _ _ ∙ c.sew_underlay-r.ensures.2
 
 pub returns : goal.returns
+unfolding of_bits
 returns c =
     let a = c.args in
     let ok = sym c.underlay_sized.ensures ∙ c.if-not-underlay_sized.false in
     let k = c.need.ensures ∙ ap (need (rails_of a.a.now a.b.now a.sync.now)) (c.underlay_most.ensures ∙ sym (underlay_most a.a.now a.b.now a.sync.now a.g c.ends_of-ends.ensures c.requires.1 c.underlay_passes-u.ensures ok)) in
     let h = c.sew_underlay-r.ensures in
     rw (underlay_fitted a.a.now a.b.now a.sync.now a.g (length a.work.now) (length a.out.now) c.requires.1 (sym (sized_is a.a.now a.b.now a.sync.now a.g c.ends_of-ends.ensures (underlay_steps a.g)) ∙ ok) (rw k at c.if-work-need.false))
-    (h.0, h.1, (rw h.2 at c.zero-2.ensures) ∙ sym (worked_fitted (underlay (rails_of a.a.now a.b.now a.sync.now) a.g) (length a.out.now) a.work.now))
+    (h.0, h.1, (rw h.2 at (c.fill-2.ensures.after (λ y h. search rules))) ∙ sym (worked_fitted (underlay (rails_of a.a.now a.b.now a.sync.now) a.g) (length a.out.now) a.work.now))

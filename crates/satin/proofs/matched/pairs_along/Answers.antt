@@ -1,16 +1,17 @@
 -- `pairs_along` meets its contract: which of SIZE, WORK, ROOM and DONE it is, and what is laid is what is copied. Assumes nothing.
 use mathlib.Core.Path.{◌≡◌, refl, ap, ◌∙◌}
-use Prim.Native.Nat.{◌-◌, ◌*◌, ◌≤◌}
+use Prim.Native.Nat.{◌*◌, ◌≤◌}
 use native.Mathlib.Omega.{arith}
+use lib.Ieee.{of_bits}
 use lib.ListN.{length, take, length-replicate}
+use Rattle.std.proofs.Common.{length-take-le}
 use Rattle.geom.specs.Outline.{points}
 use Rattle.geom.specs.Sewing.{flat}
 use Rattle.geom.specs.SewingLaws.{flat_length}
-use Rattle.limits.specs.Limits.{most_pairs}
-use Rattle.satinrules.specs.Pairs.{ends_of, count_of, places, pairs}
+use Rattle.satinrules.specs.Pairs.{pairs}
 use Rattle.satinrules.specs.Calls.{rails_of, need, both_points}
 use Rattle.pairing.specs.WalkLaws.{places_bound}
-use Rattle.satin.specs.PassedLaws.{passed_size, passed_work, passed_room, passed_done, pairs_stored, pairs_count, pass_n, pass_places, need_room, copied_size}
+use Rattle.satin.specs.PassedLaws.{passed_size, passed_work, passed_room, passed_done, pairs_stored, pairs_count, pass_n, pass_places, need_room}
 use borrow.Author.Rules.{rules}
 use Rattle.satin.proofs.matched.pairs_along.Goals as goal
 
@@ -30,9 +31,10 @@ need-requires c =
     few
 
 pub shape_of-work-then-work-need : goal.shape_of-work-then-work-need
-shape_of-work-then-work-need c = ap length c.zero.ensures ∙ length-replicate _ _ ∙ c.lay_pairs-n.ensures.1
+shape_of-work-then-work-need c = ap length (c.fill.ensures.after (λ y h. search rules)) ∙ length-replicate _ _ ∙ c.lay_pairs-n.ensures.1
 
 pub returns-then-work-need : goal.returns-then-work-need
+unfolding of_bits
 returns-then-work-need c =
     let a = c.args in
     let m = pass_n a.a.now a.b.now a.sync.now a.step c.ends_of-ends.ensures c.pass_of-pass.ensures in
@@ -40,7 +42,7 @@ returns-then-work-need c =
     let q = pass_places a.a.now a.b.now a.sync.now a.step c.ends_of-ends.ensures c.pass_of-pass.ensures in
     let count = c.lay_pairs-n.ensures.0 ∙ ap length q in
     let m = c.need.ensures ∙ ap (need (rails_of a.a.now a.b.now a.sync.now)) count in
-    rw (passed_work a.a.now a.b.now a.sync.now a.step c.requires.1 (length a.work.now) (length a.out.now) sizes (rw (m, c.lay_pairs-n.ensures.1) at c.if-work-need.true)) (refl, refl, rw c.lay_pairs-n.ensures.1 at c.zero.ensures)
+    rw (passed_work a.a.now a.b.now a.sync.now a.step c.requires.1 (length a.work.now) (length a.out.now) sizes (rw (m, c.lay_pairs-n.ensures.1) at c.if-work-need.true)) (refl, refl, rw c.lay_pairs-n.ensures.1 at (c.fill.ensures.after (λ y h. search rules)))
 
 pub overflow_mul-n : goal.overflow_mul-n
 overflow_mul-n c =
@@ -49,9 +51,10 @@ overflow_mul-n c =
     omega (arith, few)
 
 pub shape_of-work-then-out-n : goal.shape_of-work-then-out-n
-shape_of-work-then-out-n c = ap length c.zero-then-out-n.ensures ∙ length-replicate _ _ ∙ c.lay_pairs-n.ensures.1
+shape_of-work-then-out-n c = ap length (c.fill-then-out-n.ensures.after (λ y h. search rules)) ∙ length-replicate _ _ ∙ c.lay_pairs-n.ensures.1
 
 pub returns-then-out-n : goal.returns-then-out-n
+unfolding of_bits
 returns-then-out-n c =
     let a = c.args in
     let m = pass_n a.a.now a.b.now a.sync.now a.step c.ends_of-ends.ensures c.pass_of-pass.ensures in
@@ -59,7 +62,7 @@ returns-then-out-n c =
     let q = pass_places a.a.now a.b.now a.sync.now a.step c.ends_of-ends.ensures c.pass_of-pass.ensures in
     let count = c.lay_pairs-n.ensures.0 ∙ ap length q in
     let m = c.need.ensures ∙ ap (need (rails_of a.a.now a.b.now a.sync.now)) count in
-    rw (passed_room a.a.now a.b.now a.sync.now a.step c.requires.1 (length a.work.now) (length a.out.now) sizes (rw (m, c.lay_pairs-n.ensures.1) at c.if-work-need.false) (rw count at c.if-out-n.true)) (refl, refl, rw c.lay_pairs-n.ensures.1 at c.zero-then-out-n.ensures)
+    rw (passed_room a.a.now a.b.now a.sync.now a.step c.requires.1 (length a.work.now) (length a.out.now) sizes (rw (m, c.lay_pairs-n.ensures.1) at c.if-work-need.false) (rw count at c.if-out-n.true)) (refl, refl, rw c.lay_pairs-n.ensures.1 at (c.fill-then-out-n.ensures.after (λ y h. search rules)))
 
 pub overflow_mul-n-2 : goal.overflow_mul-n-2
 overflow_mul-n-2 c =
@@ -67,23 +70,18 @@ overflow_mul-n-2 c =
     let few : c.lay_pairs-n.result ≤ 65537 = omega (arith, c.if-pass-gt-MOST_PAIRS.false, c.lay_pairs-n.ensures.0, places_bound c.ends_of-ends.result (points a.sync.now) c.pass_of-pass.result) in
     omega (arith, few)
 
-pub slice_bounds-copy-end : goal.slice_bounds-copy-end
-slice_bounds-copy-end c =
-    let a = c.args in
-    let roomy : 4 * c.lay_pairs-n.result ≤ length a.work.now = omega (arith, need_room a.a.now a.b.now a.sync.now c.lay_pairs-n.result (length a.work.now) (rw (c.need.ensures, c.lay_pairs-n.ensures.1) at c.if-work-need.false)) in
-    omega (arith, roomy, c.lay_pairs-n.ensures.1)
+pub slice_bounds-copy_from_slice-end-3 : goal.slice_bounds-copy_from_slice-end-3
+slice_bounds-copy_from_slice-end-3 c = omega (arith, need_room c.args.a.now c.args.b.now c.args.sync.now c.lay_pairs-n.result (length c.lay_pairs-n.new.w) (rw c.need.ensures at c.if-work-need.false))
 
-pub copy-requires : goal.copy-requires
-copy-requires c =
-    let a = c.args in
-    let q = pass_places a.a.now a.b.now a.sync.now a.step c.ends_of-ends.ensures c.pass_of-pass.ensures in
-    let count = c.lay_pairs-n.ensures.0 ∙ ap length q in
-    let roomy : 4 * c.lay_pairs-n.result ≤ length a.work.now = omega (arith, need_room a.a.now a.b.now a.sync.now c.lay_pairs-n.result (length a.work.now) (rw (c.need.ensures, c.lay_pairs-n.ensures.1) at c.if-work-need.false)) in
-    let told = flat (both_points (pairs (rails_of a.a.now a.b.now a.sync.now) a.step)) in
-    let stored : length told ≡ 4 * c.lay_pairs-n.result = omega (arith, flat_length (both_points (pairs (rails_of a.a.now a.b.now a.sync.now) a.step)), pairs_count a.a.now a.b.now a.sync.now a.step c.requires.1, count) in
-    let z : 4 * c.lay_pairs-n.result - 0 ≡ 4 * c.lay_pairs-n.result = omega arith in
-    let laid : take (4 * c.lay_pairs-n.result - 0) c.lay_pairs-n.new.w ≡ told = rw (z, pairs_stored a.a.now a.b.now a.sync.now a.step c.requires.1, ← q) (c.lay_pairs-n.ensures.2 roomy) in
-    rw (laid, stored) (omega (arith, c.if-out-n.false))
+pub slice_bounds-copy_from_slice-end-4 : goal.slice_bounds-copy_from_slice-end-4
+slice_bounds-copy_from_slice-end-4 c =
+    let n = need_room c.args.a.now c.args.b.now c.args.sync.now c.lay_pairs-n.result (length c.lay_pairs-n.new.w) (rw c.need.ensures at c.if-work-need.false) in
+    omega (arith, length-take-le (4 * c.lay_pairs-n.result) c.lay_pairs-n.new.w (omega (arith, n)))
+
+pub copy_from_slice-requires : goal.copy_from_slice-requires
+copy_from_slice-requires c =
+    let n = need_room c.args.a.now c.args.b.now c.args.sync.now c.lay_pairs-n.result (length c.lay_pairs-n.new.w) (rw c.need.ensures at c.if-work-need.false) in
+    omega (arith, length-take-le (4 * c.lay_pairs-n.result) c.args.out.now c.if-out-n.false, length-take-le (4 * c.lay_pairs-n.result) c.lay_pairs-n.new.w (omega (arith, n)))
 
 pub overflow_mul-result : goal.overflow_mul-result
 overflow_mul-result c =
@@ -92,22 +90,10 @@ overflow_mul-result c =
     omega (arith, few)
 
 pub shape_of-work : goal.shape_of-work
-shape_of-work c = ap length c.zero-2.ensures ∙ length-replicate _ _ ∙ c.lay_pairs-n.ensures.1
-
-pub shape_of-out : goal.shape_of-out
-shape_of-out c =
-    let a = c.args in
-    let q = pass_places a.a.now a.b.now a.sync.now a.step c.ends_of-ends.ensures c.pass_of-pass.ensures in
-    let count = c.lay_pairs-n.ensures.0 ∙ ap length q in
-    let roomy : 4 * c.lay_pairs-n.result ≤ length a.work.now = omega (arith, need_room a.a.now a.b.now a.sync.now c.lay_pairs-n.result (length a.work.now) (rw (c.need.ensures, c.lay_pairs-n.ensures.1) at c.if-work-need.false)) in
-    let told = flat (both_points (pairs (rails_of a.a.now a.b.now a.sync.now) a.step)) in
-    let stored : length told ≡ 4 * c.lay_pairs-n.result = omega (arith, flat_length (both_points (pairs (rails_of a.a.now a.b.now a.sync.now) a.step)), pairs_count a.a.now a.b.now a.sync.now a.step c.requires.1, count) in
-    let z : 4 * c.lay_pairs-n.result - 0 ≡ 4 * c.lay_pairs-n.result = omega arith in
-    let laid : take (4 * c.lay_pairs-n.result - 0) c.lay_pairs-n.new.w ≡ told = rw (z, pairs_stored a.a.now a.b.now a.sync.now a.step c.requires.1, ← q) (c.lay_pairs-n.ensures.2 roomy) in
-    let e = rw laid at c.copy.ensures in
-    copied_size a.out.now _ (flat (both_points (pairs (rails_of a.a.now a.b.now a.sync.now) a.step))) (omega (arith, c.if-out-n.false, stored)) e
+shape_of-work c = ap length (c.fill-2.ensures.after (λ y h. search rules)) ∙ length-replicate _ _ ∙ c.lay_pairs-n.ensures.1
 
 pub returns : goal.returns
+unfolding of_bits
 returns c =
     let a = c.args in
     let m = pass_n a.a.now a.b.now a.sync.now a.step c.ends_of-ends.ensures c.pass_of-pass.ensures in
@@ -116,9 +102,9 @@ returns c =
     let count = c.lay_pairs-n.ensures.0 ∙ ap length q in
     let roomy : 4 * c.lay_pairs-n.result ≤ length a.work.now = omega (arith, need_room a.a.now a.b.now a.sync.now c.lay_pairs-n.result (length a.work.now) (rw (c.need.ensures, c.lay_pairs-n.ensures.1) at c.if-work-need.false)) in
     let told = flat (both_points (pairs (rails_of a.a.now a.b.now a.sync.now) a.step)) in
-    let z : 4 * c.lay_pairs-n.result - 0 ≡ 4 * c.lay_pairs-n.result = omega arith in
-    let laid : take (4 * c.lay_pairs-n.result - 0) c.lay_pairs-n.new.w ≡ told = rw (z, pairs_stored a.a.now a.b.now a.sync.now a.step c.requires.1, ← q) (c.lay_pairs-n.ensures.2 roomy) in
+    let laid : take (4 * c.lay_pairs-n.result) c.lay_pairs-n.new.w ≡ told = rw (pairs_stored a.a.now a.b.now a.sync.now a.step c.requires.1, ← q) (c.lay_pairs-n.ensures.2 roomy) in
+    let stored : length told ≡ 4 * c.lay_pairs-n.result = omega (arith, flat_length (both_points (pairs (rails_of a.a.now a.b.now a.sync.now) a.step)), pairs_count a.a.now a.b.now a.sync.now a.step c.requires.1, count) in
     let m = c.need.ensures ∙ ap (need (rails_of a.a.now a.b.now a.sync.now)) count in
-    let e = rw laid at c.copy.ensures in
+    let e = c.copy_from_slice.ensures.after ∙ laid in
     rw (passed_done a.a.now a.b.now a.sync.now a.step c.requires.1 (length a.work.now) (length a.out.now) sizes (rw (m, c.lay_pairs-n.ensures.1) at c.if-work-need.false) (rw count at c.if-out-n.false))
-    (rw (count, pairs_count a.a.now a.b.now a.sync.now a.step c.requires.1), e, rw c.lay_pairs-n.ensures.1 at c.zero-2.ensures)
+    (rw (count, pairs_count a.a.now a.b.now a.sync.now a.step c.requires.1), rw (e, stored) refl, rw c.lay_pairs-n.ensures.1 at (c.fill-2.ensures.after (λ y h. search rules)))

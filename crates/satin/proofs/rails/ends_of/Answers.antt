@@ -3,7 +3,6 @@ use native.Mathlib.Omega.{arith}
 use Rattle.satinrules.specs.Pairs.{ends_of}
 use Rattle.satinrules.specs.Calls.{rails_of}
 use Rattle.pairing.specs.StoreLaws.{some_a_lem, some_b_lem, last_a, last_b}
-use borrow.Author.Rules.{rules}
 use Rattle.satin.proofs.rails.ends_of.Goals as goal
 
 pub overflow_sub-result : goal.overflow_sub-result

@@ -1,6 +1,5 @@
 use Rattle.geom.specs.OutlineLaws.{points_length}
 use Rattle.satinrules.specs.Calls.{rails_of, need}
-use borrow.Author.Rules.{rules}
 use Rattle.satin.proofs.rails.need.Goals as goal
 
 pub returns : goal.returns

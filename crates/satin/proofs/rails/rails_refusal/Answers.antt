@@ -1,8 +1,6 @@
 -- `rails_refusal` meets its contract: each answer follows from the tests on the way to it. Assumes nothing.
 use mathlib.Core.Path.{sym, ◌∙◌}
-use borrow.Author.Tests.{not-true, not-false}
 use Rattle.satinrules.specs.Calls.{good_rails}
-use borrow.Author.Rules.{rules}
 use Rattle.satin.proofs.rails.rails_refusal.Goals as goal
 
 pub returns-then-not-good_line : goal.returns-then-not-good_line

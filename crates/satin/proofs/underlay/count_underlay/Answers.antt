@@ -1,7 +1,6 @@
 use native.Mathlib.Omega.{arith}
 use Rattle.satin.specs.Underlay.{underlay_count}
 use Rattle.satin.specs.UnderlayLaws.{bit_one}
-use borrow.Author.Rules.{rules}
 use Rattle.satin.proofs.underlay.count_underlay.Goals as goal
 
 pub overflow_add-result : goal.overflow_add-result

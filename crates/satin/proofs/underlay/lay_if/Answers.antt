@@ -1,7 +1,6 @@
-use mathlib.Core.Path.{refl, sym, ◌∙◌}
+use mathlib.Core.Path.{refl}
 use native.Mathlib.Omega.{arith}
 use Rattle.seqs.specs.Tests.{clash}
-use borrow.Author.Rules.{rules}
 use Rattle.satin.proofs.underlay.lay_if.Goals as goal
 
 pub lay_pairs-requires : goal.lay_pairs-requires

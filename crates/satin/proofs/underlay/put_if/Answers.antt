@@ -3,7 +3,6 @@ use native.Mathlib.Omega.{arith}
 use Rattle.seqs.specs.Put.{put_none}
 use Rattle.geom.specs.Sewing.{flat}
 use Rattle.passes.specs.ThreadsLaws.{pass_length}
-use borrow.Author.Rules.{rules}
 use Rattle.satin.proofs.underlay.put_if.Goals as goal
 
 pub put_thread-requires : goal.put_thread-requires

@@ -15,7 +15,6 @@ use Rattle.passes.specs.Threads.{pairs_in}
 use Rattle.passes.specs.declared.threads.Thread.TheVariants.{Alternate}
 use Rattle.satin.specs.Underlay.{runs, over_if, runs_over}
 use Rattle.satin.specs.UnderlayLaws.{fit_laid, end_is, underlay_over, run_size}
-use borrow.Author.Rules.{rules}
 use Rattle.satin.proofs.underlay.put_underlay.Goals as goal
 
 pub lay_if-requires : goal.lay_if-requires
