@@ -5,3 +5,4 @@ pub mod Steps
 pub mod Sewing
 pub mod OutlineLaws
 pub mod SewingLaws
+pub mod Rings

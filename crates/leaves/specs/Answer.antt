@@ -1,27 +1,24 @@
 -- Document 01's answers of the leaves: the number and the value of each case, and when NUMBER is given. Definitions only.
-use Rattle.std.specs.Prelude.{ℕ, cond, ◌&&◌, Float}
+use Rattle.std.specs.Prelude.{ℕ, cond, ◌&&◌, Float, Result, Ok, Err}
 use Rattle.std.specs.Float.Ieee.{le}
-use Rattle.refusal.specs.Refusal.{Answer, done, refused, number_unless}
+use Rattle.std.specs.declared.cmp.Ordering.{Ordering}
+use Rattle.std.specs.declared.cmp.Ordering.TheVariants.{Less, Equal, Greater}
+use Rattle.refusal.specs.declared.Refusal.{Refusal}
+use Rattle.refusal.specs.Refusal.{Answer, number, done, refused, number_unless}
 use Rattle.numbers.specs.Num.{zero64}
 use Rattle.numbers.specs.Root.{root}
 use Rattle.numbers.specs.Whole.{floor, ceil}
 use Rattle.numbers.specs.Order.{finite, before, smaller, larger, magnitude}
-use Rattle.leaves.specs.declared.checked.Leaf.{Leaf}
-use Rattle.leaves.specs.declared.checked.Leaf.TheVariants.{Value, Refused}
-use Rattle.leaves.specs.declared.checked.Place.{Place}
-use Rattle.leaves.specs.declared.checked.Place.TheVariants.{Before, Same, After}
-use Rattle.leaves.specs.declared.checked.Place.TheVariants as place
-
-abbrev pub said : Leaf → Answer Float
-said (Value v) = done v
-said (Refused n) = refused n
 
 -- 0 before, 1 the same, 2 after
-abbrev pub said_place : Place → Answer ℕ
-said_place Before = done 0
-said_place Same = done 1
-said_place After = done 2
-said_place (place.Refused n) = refused n
+abbrev pub place : Ordering → ℕ
+place Less = 0
+place Equal = 1
+place Greater = 2
+
+abbrev pub said_order : Result Ordering Refusal → Answer ℕ
+said_order (Ok o) = done (place o)
+said_order (Err e) = refused (number e)
 
 unfoldable pub root_answer : Float → Answer Float
 root_answer x = number_unless (finite x && le zero64 x) (root x)

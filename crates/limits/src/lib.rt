@@ -1,12 +1,14 @@
 // Document 01's limits, named in this one place, and the tests that hold input to them.
 #![tactic(auto)]
 
-ghost use Rattle.std.specs.Prelude.{◌≡◌};
+ghost use Rattle.std.specs.Prelude.{◌≡◌, true, false, MatchResult};
+ghost use Rattle.refusal.specs.declared.Refusal.TheVariants.{Layout};
 ghost use Rattle.geom.specs.Outline.{rising};
 ghost use Rattle.limits.specs.Limits.{within, good_number, good_point, good_numbers, good_spacing, good_len, good_step, good_inset, good_stagger, good_cell, good_passes, good_underlay, good_split, good_turn, good_outline, good_line};
 
-use geom::P;
+use geom::{Outline, P};
 use leaves::is_finite;
+use refusal::Refusal;
 
 // Of an outline; of an outline in all; of one rail or line; of a column.
 pub const MOST_RINGS: usize = 255;
@@ -56,12 +58,10 @@ pub fn good_numbers(l: &[f64]) -> bool
     ensures { result ≡ good_numbers l.now }
 {
     let mut ok = true;
-    let mut i = 0;
-    while i < l.len() {
-        if !good_number(l[i]) {
+    for x in l {
+        if !good_number(*x) {
             ok = false;
         }
-        i += 1;
     }
     ok
 }
@@ -141,14 +141,11 @@ fn ends_rise(ends: &[usize], n: usize) -> bool
     ensures { result ≡ rising 0 ends.now n }
 {
     let mut a = 0;
-    let mut k = 0;
-    while k < ends.len() {
-        let e = ends[k];
-        if e < a {
+    for e in ends {
+        if *e < a {
             return false;
         }
-        a = e;
-        k += 1;
+        a = *e;
     }
     a == n
 }
@@ -168,6 +165,17 @@ pub fn good_outline(corners: &[f64], ends: &[usize]) -> bool
         return false;
     }
     ends_rise(ends, n / 2)
+}
+
+// The outline that corners and ends lay out, if they do.
+pub fn outline<'a>(corners: &'a [f64], ends: &'a [usize]) -> Result<Outline<'a>, Refusal>
+    ensures { MatchResult result (λ o. (o.corners.now ≡ corners.now) × (o.ends.now ≡ ends.now) × (good_outline corners.now ends.now ≡ true)) (λ e. (e ≡ Layout) × (good_outline corners.now ends.now ≡ false)) }
+{
+    if good_outline(corners, ends) {
+        Ok(Outline { corners, ends })
+    } else {
+        Err(Refusal::Layout)
+    }
 }
 
 // The layout of a rail or line.

@@ -14,7 +14,7 @@ use Rattle.seqs.specs.Wrote.{Run, run_at, run_step, run_end}
 use Rattle.geom.specs.declared.point.P.{P}
 use Rattle.geom.specs.Point.{point}
 use Rattle.geom.specs.Outline.{points, cut}
-use Rattle.geom.specs.OutlineLaws.{corner_at, points_next, points_end, points_length, points_last, cut_next, cut_none}
+use Rattle.geom.specs.OutlineLaws.{corner_at, points_length, points_last, cut_next, cut_none}
 use Rattle.outlines.specs.Winding.{edge}
 use Rattle.outlines.specs.Sides.{side_sum, across, chain_sides, ring_sides, sides, Gathered}
 use Rattle.outlines.specs.SidesLaws.{sides_sum}
@@ -51,18 +51,10 @@ module _ (y : Float) (l : List Float) where
   unfolding ring_sides
   ring_begins even h = rw (le-ltb (length (points l)) 3 (omega (arith, points_length l)), points_last l _ even (omega arith))
 
-  module _ (a b : P) (i : ℕ) where
-    chain_next : b ≡ corner_at l i → i + 1 < length l → chain_sides y a (points (drop i l)) ≡ across y a b ++ chain_sides y b (points (drop (i + 2) l))
-    unfolding chain_sides
-    chain_next e h = rw (points_next l i h, e)
-
-    -- from what the calls of a turn answer: corner b, and where its side ends
-    pub chain_turn : {d₀ d d' whole : List Float} {k at r : ℕ} → b ≡ corner_at l i → i + 1 < length l → Run d₀ d k at (chain_sides y a (points (drop i l))) whole → Wrote d d' at (across y a b) → r ≡ at + length (across y a b) → Run d₀ d' k r (chain_sides y b (points (drop (i + 2) l))) whole
-    chain_turn e h f w q = rw q (run_step (across y a b) (chain_sides y b (points (drop (i + 2) l))) (run_at (chain_next e h) f) w)
-
-  pub chain_ended : {d₀ d whole : List Float} {k at : ℕ} (a : P) (i : ℕ) → length l ≤ i + 1 → Run d₀ d k at (chain_sides y a (points (drop i l))) whole → Run d₀ d k at [] whole
-  unfolding chain_sides
-  chain_ended a i h f = rw (points_end l i h) at f
+-- from what the calls of a turn answer: corner b, and where its side ends
+pub chain_turn : (y : Float) (a b : P) (rest : List P) {d₀ d d' whole : List Float} {k at r : ℕ} → Run d₀ d k at (chain_sides y a (b ∷ rest)) whole → Wrote d d' at (across y a b) → r ≡ at + length (across y a b) → Run d₀ d' k r (chain_sides y b rest) whole
+unfolding chain_sides
+chain_turn y a b rest f w q = rw q (run_step (across y a b) (chain_sides y b rest) f w)
 
 -- ---- the sides of the rings
 

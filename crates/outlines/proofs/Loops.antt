@@ -36,36 +36,18 @@ sum w r n h k =
     let d = back (to_z w64 w +ℤ r) n (omega (arith, nat_abs_add (to_z w64 w) r)) k in
     record { fits = rw e (sum_small (to_z w64 w) r n h k); is = rw e d; small = rw (e, d) (omega (arith, nat_abs_add (to_z w64 w) r)) }
 
--- ---- the edges of a chain
-
-module _ (p : P) (l : List Float) where
-  pub chain_start : 1 < length l → chain p (points l) ≡ edges p (corner_at l 0) (points (drop 2 l))
-  unfolding chain
-  chain_start h = ap (chain p) (points_next l 0 h)
-
-  pub chain_short : length l < 2 → chain p (points l) ≡ pos 0
-  unfolding chain
-  chain_short h = ap (chain p) (points_end l 0 (omega arith))
-
-  pub edges_next : (z : ℤ) (a : P) (i : ℕ) → i + 1 < length l → z +ℤ edges p a (points (drop i l)) ≡ (z +ℤ edge a (corner_at l i) p) +ℤ edges p (corner_at l i) (points (drop (i + 2) l))
-  unfolding edges
-  edges_next z a i h = rw (points_next l i h) (sym (+ℤ_assoc z (edge a (corner_at l i) p) (edges p (corner_at l i) (points (drop (i + 2) l)))))
-
-  pub edges_end : (z : ℤ) (a : P) (i : ℕ) → length l ≤ i + 1 → z +ℤ edges p a (points (drop i l)) ≡ z
-  unfolding edges
-  edges_end z a i h = rw (points_end l i h) (+ℤ_idr z)
-
 -- ---- how many corners have at most this y
 
+pub lows_few : (y : Float) (l : List P) → lows y l ≤ length l
+unfolding lows
+lows_few y [] = omega arith
+lows_few y (a ∷ l) = few (le a.y y) (lows_few y l)
+  where
+    few : {n m : ℕ} (b : Bool) → n ≤ m → cond b 1 0 + n ≤ suc m
+    few true h = omega arith
+    few false h = omega arith
+
 module _ (y : Float) (l : List Float) where
-  pub lows_next : (i : ℕ) → i + 1 < length l → lows y (points (drop i l)) ≡ cond (le (get_or l (i + 1) nan) y) 1 0 + lows y (points (drop (i + 2) l))
-  unfolding lows
-  lows_next i h = rw (points_next l i h)
-
-  pub lows_end : (i : ℕ) → length l ≤ i + 1 → lows y (points (drop i l)) ≡ 0
-  unfolding lows
-  lows_end i h = rw (points_end l i h)
-
   pub none_of_them : lows y (points l) ≡ 0 → true ≡ one_side y (points l)
   unfolding one_side
   none_of_them h = rw (eq-eqb _ _ h)

@@ -7,4 +7,5 @@ pub mod Inside
 pub mod WindingLaws
 pub mod LeftLaws
 pub mod SidesLaws
+pub mod HeightsLaws
 pub mod Ks

@@ -4,8 +4,11 @@ ghost use Rattle.std.specs.Prelude.{◌≡◌, true, false, ◌+◌, ◌<◌, mi
 ghost use Rattle.std.specs.Float.Ieee.{lt, le};
 ghost use Rattle.numbers.specs.Value.{Within};
 ghost use Rattle.seqs.specs.Lists.{All};
-ghost use Rattle.geom.specs.Outline.{points, Layout};
+ghost use Rattle.geom.specs.Outline.{points};
 ghost use Rattle.outlines.specs.Heights.{Left, Lies, Heights, Measured};
+
+use geom::Outline;
+use geom::flat::Points;
 
 // Blocks for as many corners as document 01 has.
 pub const BLOCKS: usize = 128;
@@ -79,18 +82,12 @@ fn height_of(l: &[f64]) -> Height
     let mut lo = 1.0 / 0.0;
     let mut hi = -1.0 / 0.0;
     let mut right = -1.0 / 0.0;
-    let mut i = 0;
-    while i + 1 < l.len() {
-        lo = lower(lo, l[i + 1]);
-        hi = higher(hi, l[i + 1]);
-        right = righter(right, l[i], l[i + 1]);
-        i += 2;
+    for a in Points::of(l) {
+        lo = lower(lo, a.y);
+        hi = higher(hi, a.y);
+        right = righter(right, a.x, a.y);
     }
-    Height {
-        lo: lo,
-        hi: hi,
-        right: right,
-    }
+    Height { lo, hi, right }
 }
 
 fn put_height(t: &mut [f64], to: usize, h: Height)
@@ -136,32 +133,26 @@ fn block_heights(corners: &[f64], t: &mut [f64])
 }
 
 // Those of the rings after them.
-fn ring_heights(corners: &[f64], ends: &[usize], t: &mut [f64])
-    requires { Layout corners.now ends.now × Heights 0 (points corners.now) t.old }
-    ensures { Measured corners.now ends.now t.new }
+fn ring_heights(o: Outline, t: &mut [f64])
+    requires { Heights 0 (points o.corners.now) t.old }
+    ensures { Measured o.entry.corners.now o.entry.ends.now t.new }
 {
     let mut a = 0;
-    let mut k = 0;
-    while k < ends.len() {
+    for (k, e) in o.ends.iter().enumerate() {
         let to = 3 * (BLOCKS + k);
         if t.len() <= to + 2 {
             return;
         }
-        let e = ends[k];
-        let from = 2 * a;
-        let end = 2 * e;
-        let h = height_of(&corners[from..end]);
+        let h = height_of(o.part(a, *e));
         put_height(t, to, h);
-        a = e;
-        k += 1;
+        a = *e;
     }
 }
 
 // All of them, as far as t goes.
-pub fn heights(corners: &[f64], ends: &[usize], t: &mut [f64])
-    requires { Layout corners.now ends.now }
-    ensures { Measured corners.now ends.now t.new }
+pub fn heights(o: Outline, t: &mut [f64])
+    ensures { Measured o.entry.corners.now o.entry.ends.now t.new }
 {
-    block_heights(corners, t);
-    ring_heights(corners, ends, t);
+    block_heights(o.corners, t);
+    ring_heights(o, t);
 }

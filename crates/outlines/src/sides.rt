@@ -1,12 +1,17 @@
 // The sides of an outline that cross a height, gathered once where many points of that height are asked about.
 ghost use Rattle.std.specs.Prelude.{◌≡◌, ◌+◌, ◌*◌, ◌%◌, ◌^◌, ◌≤◌, ◌<◌, length};
 ghost use Rattle.seqs.specs.Slices.{Wrote};
-ghost use Rattle.geom.specs.Outline.{points, rings, Layout};
+ghost use Rattle.geom.specs.Outline.{points};
+ghost use Rattle.geom.specs.Rings.{rings_of};
+ghost use Rattle.outlines.specs.Inside.{point_inside};
 ghost use Rattle.outlines.specs.Sides.{side_sum, side, across, ring_sides, Gathered};
 
+use crate::area::Area;
+use crate::rule::FillRule;
 use crate::winding::edge;
-use geom::P;
+use geom::flat::Points;
 use geom::sewing::corner;
+use geom::{Outline, P};
 
 // The side from a to b from k on, if there is room for it; answers where the next goes.
 fn put_side(out: &mut [f64], k: usize, a: P, b: P) -> usize
@@ -51,31 +56,22 @@ fn put_ring(out: &mut [f64], k: usize, l: &[f64], y: f64) -> usize
     }
     let mut a = corner(l, n - 2);
     let mut at = k;
-    let mut i = 0;
-    while i + 1 < n {
-        let b = corner(l, i);
+    for b in Points::of(l) {
         at = put_across(out, at, a, b, y);
         a = b;
-        i += 2;
     }
     at
 }
 
 // The sides across y to the front of out; answers how many numbers they are, though out may have no room for them.
-pub fn gather(corners: &[f64], ends: &[usize], y: f64, out: &mut [f64]) -> usize
-    requires { Layout corners.now ends.now }
-    ensures { Gathered (rings corners.now ends.now) y result out.new }
+pub fn gather(o: Outline, y: f64, out: &mut [f64]) -> usize
+    ensures { Gathered (rings_of o.entry) y result out.new }
 {
     let mut n = 0;
     let mut a = 0;
-    let mut k = 0;
-    while k < ends.len() {
-        let e = ends[k];
-        let from = 2 * a;
-        let to = 2 * e;
-        n = put_ring(out, n, &corners[from..to], y);
-        a = e;
-        k += 1;
+    for e in o.ends {
+        n = put_ring(out, n, o.part(a, *e), y);
+        a = *e;
     }
     n
 }
@@ -92,4 +88,15 @@ pub fn crossed(s: &[f64], p: P) -> i64
         i += 4;
     }
     w
+}
+
+// Whether p is inside, with the first n numbers of s the sides across p's height; where s has no room for them, by the outline.
+pub fn point_inside_at(o: Outline, s: &[f64], n: usize, rule: FillRule, p: P) -> bool
+    requires { Gathered (rings_of o) p.y n s.now }
+    ensures { result ≡ point_inside (rings_of o.entry) rule p }
+{
+    if n <= s.len() {
+        return rule.inside(crossed(&s[0..n], p));
+    }
+    Area::of(o, rule).has(p)
 }

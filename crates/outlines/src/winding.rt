@@ -1,13 +1,14 @@
-// The winding number of a point over rings of flat corners.
+// What an edge, a run of edges and a ring add to the winding number of a point.
 ghost use Rattle.std.specs.Prelude.{◌≡◌, true, ◌+◌, ◌-◌, ◌*◌, ◌%◌, ◌^◌, ◌<◌, min, length, pos};
 ghost use Rattle.std.specs.Float.Ieee.{lt};
 ghost use Rattle.numbers.specs.Value.{Within};
-ghost use Rattle.geom.specs.Outline.{points, rings, Layout};
-ghost use Rattle.outlines.specs.Winding.{edge, ring, winding};
+ghost use Rattle.geom.specs.Outline.{points};
+ghost use Rattle.outlines.specs.Winding.{edge, ring};
 ghost use Rattle.outlines.specs.Runs.{chain, one_side};
-ghost use Rattle.outlines.specs.Heights.{Block, Beside, Heights, Measured};
+ghost use Rattle.outlines.specs.Heights.{Block, Beside, Heights};
 
 use crate::heights::{BLOCKS, near};
+use geom::flat::Points;
 use geom::sewing::corner;
 use geom::{P, cross};
 
@@ -35,21 +36,14 @@ pub fn edge(a: P, b: P, p: P) -> i64
 fn chain(l: &[f64], p: P) -> i64
     ensures { result ≡ chain p (points l.now) }
 {
-    let n = l.len();
-    if n < 2 {
+    let mut corners = Points::of(l);
+    let Some(mut a) = corners.next() else {
         return 0;
-    }
-    let mut a = P { x: l[0], y: l[1] };
+    };
     let mut w: i64 = 0;
-    let mut i = 2;
-    while i + 1 < n {
-        let b = P {
-            x: l[i],
-            y: l[i + 1],
-        };
+    for b in corners {
         w += edge(a, b, p);
         a = b;
-        i += 2;
     }
     w
 }
@@ -58,19 +52,16 @@ fn chain(l: &[f64], p: P) -> i64
 fn one_side(l: &[f64], y: f64) -> bool
     ensures { result ≡ one_side y (points l.now) }
 {
-    let n = l.len();
     let mut c = 0;
-    let mut i = 0;
-    while i + 1 < n {
-        if l[i + 1] <= y {
+    for a in Points::of(l) {
+        if a.y <= y {
             c += 1;
         }
-        i += 2;
     }
     if c == 0 {
         return true;
     }
-    c == n / 2
+    c == l.len() / 2
 }
 
 // Whether p lies right of the corners whose greatest x is `right`.
@@ -149,7 +140,7 @@ fn part_end(a: usize, b: usize, n: usize) -> usize
 }
 
 // Ring r, handed on as a part of the corner list, from place a of it on: a block of sides at a time.
-fn ring(l: &[f64], t: &[f64], r: usize, a: usize, p: P) -> i64
+pub(crate) fn ring(l: &[f64], t: &[f64], r: usize, a: usize, p: P) -> i64
     requires { (length l.now % 2 ≡ 0) × (a + length l.now < 2 ^ 62) × Heights a (points l.now) t.now × Block (128 + r) (points l.now) t.now }
     ensures { result ≡ ring p (points l.now) }
 {
@@ -172,30 +163,4 @@ fn ring(l: &[f64], t: &[f64], r: usize, a: usize, p: P) -> i64
         k = e - 1;
     }
     w
-}
-
-// The winding number, with the outline's heights.
-pub fn winding_by(corners: &[f64], ends: &[usize], t: &[f64], p: P) -> i64
-    requires { Measured corners.now ends.now t.now }
-    ensures { result ≡ winding (rings corners.now ends.now) p }
-{
-    let mut w: i64 = 0;
-    let mut a = 0;
-    let mut k = 0;
-    while k < ends.len() {
-        let e = ends[k];
-        let from = 2 * a;
-        let to = 2 * e;
-        w += ring(&corners[from..to], t, k, a, p);
-        a = e;
-        k += 1;
-    }
-    w
-}
-
-pub fn winding(corners: &[f64], ends: &[usize], p: P) -> i64
-    requires { Layout corners.now ends.now }
-    ensures { result ≡ winding (rings corners.now ends.now) p }
-{
-    winding_by(corners, ends, &corners[0..0], p)
 }

@@ -14,6 +14,7 @@ pub mod cuts;
 use alike::{known, learnt, pieces_of, steps_of};
 pub use cuts::piece_steps;
 use geom::P;
+use geom::flat::Points;
 use geom::sewing::{corner, put_point};
 use geom::steps::along;
 use refusal::{DONE, ROOM, Sewn};
@@ -21,17 +22,14 @@ use refusal::{DONE, ROOM, Sewn};
 pub fn polyline_length(line: &[f64]) -> f64
     ensures { result ≡ polyline_length (points line.now) }
 {
-    if line.len() < 2 {
+    let mut corners = Points::of(line);
+    let Some(mut p) = corners.next() else {
         return 0.0;
-    }
+    };
     let mut sum = 0.0;
-    let mut p = corner(line, 0);
-    let mut i = 2;
-    while i + 1 < line.len() {
-        let q = corner(line, i);
+    for q in corners {
         sum = sum + p.dist(q);
         p = q;
-        i += 2;
     }
     sum
 }

@@ -1,5 +1,7 @@
 -- Document 01's table of answers, by name and number; and what a call that answers one value says: the number, and the value where it is DONE.
-use Rattle.std.specs.Prelude.{ℕ, Bool, true, false, cond, eqb, List, [], ◌∷◌}
+use Rattle.std.specs.Prelude.{ℕ, Bool, true, false, cond, eqb, List, [], ◌∷◌, Result, Ok, Err}
+use Rattle.refusal.specs.declared.Refusal.{Refusal}
+use Rattle.refusal.specs.declared.Refusal.TheVariants.{Layout, Number, Setting, Turn, Size, Work, Room}
 
 abbrev pub DONE : ℕ
 DONE = 0
@@ -24,6 +26,16 @@ WORK = 6
 
 abbrev pub ROOM : ℕ
 ROOM = 7
+
+-- the number of a refusal
+abbrev pub number : Refusal → ℕ
+number Layout = LAYOUT
+number Number = NUMBER
+number Setting = SETTING
+number Turn = TURN
+number Size = SIZE
+number Work = WORK
+number Room = ROOM
 
 -- a check answers DONE where its test holds, and its number where it doesn't
 abbrev pub unless : ℕ → Bool → ℕ
@@ -54,3 +66,8 @@ module _ {A : Type 0} where
   -- the value where no check applies, and the number of the one that does
   abbrev pub answer : ℕ → A → Answer A
   answer n v = cond (eqb n DONE) (done v) (refused n)
+
+  -- what a result says
+  abbrev pub said : Result A Refusal → Answer A
+  said (Ok v) = done v
+  said (Err e) = refused (number e)

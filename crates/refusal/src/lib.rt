@@ -1,34 +1,61 @@
-// Document 01's table of answers: each number named once. Requests add theirs below.
-
-// None of the others applies.
+// Document 01's table of answers: why a call refuses. A request adds its own below.
 #![tactic(auto)]
 
-pub const DONE: u64 = 0;
-// Counts and framing.
-pub const LAYOUT: u64 = 1;
-// A number that is not finite, or too large.
-pub const NUMBER: u64 = 2;
-// A setting outside its range.
-pub const SETTING: u64 = 3;
-// A cosine and sine that turn nothing.
-pub const TURN: u64 = 4;
-// Too many rows, cells or pairs.
-pub const SIZE: u64 = 5;
-// A working slice below the need.
-pub const WORK: u64 = 6;
-// An output slice below the answer.
-pub const ROOM: u64 = 7;
+ghost use Rattle.std.specs.Prelude.{◌≡◌};
 
-// What a call that sews says: a number of the table, and how many points stand at the front of its output, none after a refusal.
-#[derive(Clone, Copy)]
-pub struct Sewn {
-    pub answer: u64,
-    pub points: u64,
+use std::error::Error;
+use std::fmt;
+
+// In the order of the checks. DONE, the answer 0, is an `Ok`.
+#[derive(Clone, Copy, Debug, PartialEq, Eq, Hash)]
+pub enum Refusal {
+    // Counts and framing.
+    Layout,
+    // A number that is not finite, or too large.
+    Number,
+    // A setting outside its range.
+    Setting,
+    // A cosine and sine that turn nothing.
+    Turn,
+    // Too many rows, cells or pairs.
+    Size,
+    // A working slice below the need.
+    Work,
+    // An output slice below the answer.
+    Room,
 }
 
-// The same of a call that writes bytes.
-#[derive(Clone, Copy)]
-pub struct Written {
-    pub answer: u64,
-    pub bytes: u64,
+// The table's number.
+impl From<Refusal> for u64 {
+    ghost use Rattle.refusal.specs.Refusal.{number};
+
+    ghost from_gives = { λ e n. n ≡ number e };
+
+    fn from(e: Refusal) -> u64 {
+        match e {
+            Refusal::Layout => 1,
+            Refusal::Number => 2,
+            Refusal::Setting => 3,
+            Refusal::Turn => 4,
+            Refusal::Size => 5,
+            Refusal::Work => 6,
+            Refusal::Room => 7,
+        }
+    }
 }
+
+impl fmt::Display for Refusal {
+    fn fmt<W: fmt::Write>(&self, f: &mut fmt::Formatter<W>) -> fmt::Result {
+        match self {
+            Refusal::Layout => write!(f, "counts or framing"),
+            Refusal::Number => write!(f, "a number that is not finite, or too large"),
+            Refusal::Setting => write!(f, "a setting outside its range"),
+            Refusal::Turn => write!(f, "a cosine and sine that turn nothing"),
+            Refusal::Size => write!(f, "too many rows, cells or pairs"),
+            Refusal::Work => write!(f, "a working slice below the need"),
+            Refusal::Room => write!(f, "an output slice below the answer"),
+        }
+    }
+}
+
+impl Error for Refusal {}

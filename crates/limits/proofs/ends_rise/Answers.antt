@@ -6,15 +6,15 @@ use Rattle.limits.proofs.ends_rise.Goals as goal
 
 pub returns-then-e-a : goal.returns-then-e-a
 returns-then-e-a c =
-    let l = c.loop-k in
-    sym (rw (lt-leb _ _ c.if-e-a.true) at (rising_next l.a c.args.ends.now l.k c.args.n (search rules))) ∙ l.invariant.1
+    let l = c.loop-e in
+    sym (rw (lt-leb _ _ c.if-e-a.true) at (rising_next l.a c.args.ends.now l.e-index c.args.n (search rules))) ∙ l.invariant
 
-pub loop-k-preserved : goal.loop-k-preserved
-loop-k-preserved c =
-    let l = c.loop-k in
-    (search rules, sym (rw (le-leb _ _ c.if-e-a.false) at (rising_next l.a c.args.ends.now l.k c.args.n (search rules))) ∙ l.invariant.1)
+pub loop-e-preserved : goal.loop-e-preserved
+loop-e-preserved c =
+    let l = c.loop-e in
+    sym (rw (le-leb _ _ c.if-e-a.false) at (rising_next l.a c.args.ends.now l.e-index c.args.n (search rules))) ∙ l.invariant
 
 pub returns : goal.returns
 returns c =
-    let l = c.loop-k in
-    sym (rising_none l.a c.args.ends.now l.k c.args.n (search rules)) ∙ l.invariant.1
+    let l = c.loop-e in
+    sym (rising_none l.a c.args.ends.now l.e-index c.args.n (search rules)) ∙ l.invariant

@@ -1,20 +1,22 @@
--- `polyline_length` meets its contract: what the sum so far and the corners from i on come to is the answer. Assumes nothing.
-use mathlib.Core.Path.{sym, ◌∙◌}
-use lib.Ieee.{of_bits}
-use Rattle.polyline.proofs.LineLaws.{length_none, length_start, length_next, length_end}
-use borrow.Author.Rules.{rules}
+-- `polyline_length` meets its contract: what the sum so far and the corners that are left come to is the answer. Assumes nothing.
+use Rattle.std.proofs.Math.Path.{refl}
+use Rattle.std.proofs.Common.{sym, ap, ◌∙◌, rules}
+use Rattle.std.specs.Float.Ieee.{of_bits}
+use Rattle.polyline.specs.Line.{length_from, polyline_length}
 use Rattle.polyline.proofs.polyline_length.Goals as goal
 
-pub returns-then-line-lt2 : goal.returns-then-line-lt2
-unfolding of_bits
-returns-then-line-lt2 c = sym (length_none c.args.line.now (search rules))
+pub returns-in_default : goal.returns-in_default
+unfolding of_bits polyline_length
+returns-in_default c = rw (sym c.of-corners.ensures ∙ c.in_default.ensures.steps.0) refl
 
-pub loop-i-init : goal.loop-i-init
-unfolding of_bits
-loop-i-init c = (search rules, rw c.corner-p.ensures (sym (length_start c.args.line.now (search rules))))
+pub loop-q-init : goal.loop-q-init
+unfolding of_bits polyline_length
+loop-q-init c = rw (sym c.of-corners.ensures ∙ c.in-Some.ensures.steps, c.into_iter-q-iterator.ensures.into_iter_gives) refl
 
-pub loop-i-preserved : goal.loop-i-preserved
-loop-i-preserved c = (search rules, rw (c.dist-sum.ensures, c.corner-q.ensures) (sym (length_next c.args.line.now c.loop-i.sum c.loop-i.p c.loop-i.i (search rules)) ∙ c.loop-i.invariant.1))
+pub loop-q-preserved : goal.loop-q-preserved
+unfolding length_from
+loop-q-preserved c = rw (c.dist-sum.ensures) (rw (c.in-Some-q.ensures.steps) at c.loop-q.invariant)
 
 pub returns : goal.returns
-returns c = sym (length_end c.args.line.now c.loop-i.sum c.loop-i.p c.loop-i.i (search rules)) ∙ c.loop-i.invariant.1
+unfolding length_from
+returns c = rw (c.in-None.ensures.steps.0) at c.loop-q.invariant

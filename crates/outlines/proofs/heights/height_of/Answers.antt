@@ -1,21 +1,17 @@
-use Prim.Native.Nat.{◌+◌}
-use native.Mathlib.Omega.{arith}
-use lib.ListN.{drop}
+use Rattle.std.proofs.Common.{sym, ◌∙◌}
 use Rattle.geom.specs.Outline.{points}
-use Rattle.geom.specs.OutlineLaws.{corner_at, points_next, points_end}
 use Rattle.outlines.proofs.Blocks.{tried_start, tried_next, tried_end}
-use borrow.Author.Rules.{rules}
 use Rattle.outlines.proofs.heights.height_of.Goals as goal
 
-pub loop-i-init : goal.loop-i-init
-loop-i-init c = (search rules, tried_start (points c.args.l.now) _ _ _)
+pub loop-a-init : goal.loop-a-init
+loop-a-init c = rw (c.into_iter-a-iterator.ensures.into_iter_gives, c.of-a-items.ensures) (tried_start (points c.args.l.now) _ _ _)
 
-pub loop-i-preserved : goal.loop-i-preserved
-loop-i-preserved c =
-    let n = points_next c.args.l.now c.loop-i.i (omega arith) in
-    (omega arith, tried_next (points c.args.l.now) (points (drop (c.loop-i.i + 2) c.args.l.now)) (corner_at c.args.l.now c.loop-i.i) c.loop-i.lo c.loop-i.hi c.loop-i.right _ _ _ c.lower-lo.ensures c.higher-hi.ensures c.righter-right.ensures (rw n at c.loop-i.invariant.1))
+pub loop-a-preserved : goal.loop-a-preserved
+loop-a-preserved c =
+    let l = c.loop-a in
+    tried_next (points c.args.l.now) c.next.new.self c.in-Some.a l.lo l.hi l.right _ _ _ c.lower-lo.ensures c.higher-hi.ensures c.righter-right.ensures (rw c.in-Some.ensures.steps at l.invariant)
 
 pub returns : goal.returns
 returns c =
-    let n = points_end c.args.l.now c.loop-i.i (omega arith) in
-    tried_end (points c.args.l.now) c.loop-i.lo c.loop-i.hi c.loop-i.right (rw n at c.loop-i.invariant.1)
+    let l = c.loop-a in
+    tried_end (points c.args.l.now) l.lo l.hi l.right (rw c.in-None.ensures.steps.0 at l.invariant)

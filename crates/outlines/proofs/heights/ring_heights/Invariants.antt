@@ -8,7 +8,4 @@ use Rattle.outlines.proofs.Blocks.{KnownRings}
 use Rattle.outlines.proofs.heights.ring_heights.Given as goal
 
 abbrev pub invariant-loop-k : goal.invariant-loop-k
-invariant-loop-k l = (l.k ≤ length l.ends) × (l.a ≡ start_of l.ends l.k) × (rising l.a (drop l.k l.ends) (length l.corners / 2) ≡ true) × (length l.t ≡ length l.initial.t) × Heights 0 (points l.corners) l.t × KnownRings l.k (points l.corners) l.ends l.t
-
-abbrev pub decreases-loop-k : goal.decreases-loop-k
-decreases-loop-k l = length l.ends - l.k
+invariant-loop-k l = (l.a ≡ start_of l.o.ends.now l.k) × (rising l.a (drop l.k l.o.ends.now) (length l.o.corners.now / 2) ≡ true) × (length l.t ≡ length l.initial.t) × Heights 0 (points l.o.corners.now) l.t × KnownRings l.k (points l.o.corners.now) l.o.ends.now l.t

@@ -1,25 +1,35 @@
 use native.Mathlib.Omega.{arith}
-use Rattle.outlines.proofs.Loops.{lows_next, lows_end, none_of_them, all_of_them}
+use Rattle.std.proofs.Common.{sym}
+use Rattle.geom.specs.Outline.{points}
+use Rattle.geom.specs.OutlineLaws.{points_length}
+use Rattle.outlines.specs.Runs.{lows}
+use Rattle.outlines.proofs.Loops.{lows_few, none_of_them, all_of_them}
 use Rattle.outlines.proofs.winding.one_side.Goals as goal
-use Rattle.outlines.proofs.winding.one_side.Goals.{then-l-i, else-l-i}
 
-pub loop-i-preserved : goal.loop-i-preserved
-loop-i-preserved c =
-    let l = c.loop-i in
-    let n = lows_next c.args.y c.args.l.now l.i (omega arith) in
-    elim c.if-l-i.branch [
-      | then-l-i w ↦ let m = rw w.if-l-i.true at n in (omega arith, omega arith, omega arith)
-      | else-l-i w ↦ let m = rw w.if-l-i.false at n in (omega arith, omega arith, omega arith)
-    ]
+pub overflow_add-c : goal.overflow_add-c
+unfolding lows
+overflow_add-c c =
+    let m = rw (c.in-Some.ensures.steps, c.if-a-y.true) at c.loop-a.invariant in
+    omega (arith, lows_few c.args.y (points c.args.l.now), points_length c.args.l.now)
+
+pub loop-a-preserved-then-a-y : goal.loop-a-preserved-then-a-y
+unfolding lows
+loop-a-preserved-then-a-y c =
+    let m = rw (c.in-Some.ensures.steps, c.if-a-y.true) at c.loop-a.invariant in omega arith
+
+pub loop-a-preserved : goal.loop-a-preserved
+unfolding lows
+loop-a-preserved c =
+    let m = rw (c.in-Some.ensures.steps, c.if-a-y.false) at c.loop-a.invariant in omega arith
 
 pub returns-then-c-eq0 : goal.returns-then-c-eq0
+unfolding lows
 returns-then-c-eq0 c =
-    let l = c.loop-i in
-    let e = lows_end c.args.y c.args.l.now l.i (omega arith) in
+    let m = rw c.in-None.ensures.steps.0 at c.loop-a.invariant in
     none_of_them c.args.y c.args.l.now (omega arith)
 
 pub returns : goal.returns
+unfolding lows
 returns c =
-    let l = c.loop-i in
-    let e = lows_end c.args.y c.args.l.now l.i (omega arith) in
-    all_of_them c.args.y c.args.l.now l.c (omega arith) c.if-c-eq0.false
+    let m = rw c.in-None.ensures.steps.0 at c.loop-a.invariant in
+    all_of_them c.args.y c.args.l.now c.loop-a.c (omega arith) c.if-c-eq0.false
