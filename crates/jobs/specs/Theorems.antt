@@ -1,5 +1,5 @@
 -- What an accepted job holds, and that the room of document 01's limits is enough; that `places` counts digits.
-use Rattle.std.specs.Prelude.{◌≡◌, Bool, ◌⊎◌, List, ℕ, zero, suc, ◌+◌, ◌-◌, ◌*◌, ◌/◌, ◌%◌, ◌^◌, ◌≤◌, ◌<◌, leb, ltb, drop}
+use Rattle.std.specs.Prelude.{◌≡◌, Bool, ◌⊎◌, List, ℕ, zero, suc, ◌+◌, ◌-◌, ◌*◌, ◌/◌, ◌%◌, ◌^◌, ◌≤◌, ◌<◌, leb, ltb}
 use Rattle.std.proofs.Math.Path.{refl}
 use Rattle.std.proofs.Common.{subst, ◌∙◌, inl, inr, lt_of_lt_of_le, pow-suc, add-one, lit≤}
 use Rattle.std.proofs.Math.Bool.{true, false}

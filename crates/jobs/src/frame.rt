@@ -20,35 +20,23 @@ pub enum Framing {
 }
 
 // The length, the version, and the bytes that are 0 or 1.
+#[tactic(auto, unfolding(crate::specs::Job::good_head))]
 pub fn good_head(s: &[u8], version: u8) -> bool
     ensures { result ≡ good_head version s.now }
 {
-    if s.len() < HEAD {
-        return false;
-    }
-    if number_at(s, 0, 4) != (s.len() - 4) as u64 {
-        return false;
-    }
-    if s[4] != version {
-        return false;
-    }
-    if s[5] > 1 {
-        return false;
-    }
-    s[6] <= 1
+    s.len() >= HEAD
+        && number_at(s, 0, 4) == (s.len() - 4) as u64
+        && s[4] == version
+        && s[5] <= 1
+        && s[6] <= 1
 }
 
 // The same of a version 2 job, with the second fill's byte that is 0 or 1.
+#[tactic(auto, unfolding(crate::specs::Job2::good_head2))]
 pub fn good_head2(s: &[u8]) -> bool
     ensures { result ≡ good_head2 s.now }
 {
-    if s.len() < HEAD2 {
-        return false;
-    }
-    if s[60] > 1 {
-        return false;
-    }
-    good_head(s, 2)
+    s.len() >= HEAD2 && s[60] <= 1 && good_head(s, 2)
 }
 
 // The corners of so many rings, which stand behind the head and end the job.
@@ -58,8 +46,7 @@ pub fn count_corners(s: &[u8], rings: usize) -> Framing
 {
     let mut at = HEAD;
     let mut n = 0;
-    let mut left = rings;
-    while left > 0 {
+    for _ in 0..rings {
         if s.len() - at < 2 {
             return Framing::Badly;
         }
@@ -72,7 +59,6 @@ pub fn count_corners(s: &[u8], rings: usize) -> Framing
         }
         at += 2 + 16 * c;
         n += c;
-        left -= 1;
     }
     if at < s.len() {
         return Framing::Badly;

@@ -18,13 +18,11 @@ fn places(n: u64) -> usize
     ensures { (result ≡ Text·places 19 n) × (result ≤ 20) }
 {
     let mut rest = n;
-    let mut k = 1;
-    while k < 20 {
+    for k in 1..20 {
         if rest < 10 {
             return k;
         }
         rest /= 10;
-        k += 1;
     }
     20
 }
@@ -35,9 +33,7 @@ fn put_digits(n: u64, base: u64, k: usize, out: &mut [u8], at: usize)
     ensures { Put out.old out.new at (digits base k n) }
 {
     let mut rest = n;
-    let mut i = k;
-    while i > 0 {
-        i -= 1;
+    for i in (0..k).rev() {
         out[at + i] = glyph(rest % base);
         rest /= base;
     }

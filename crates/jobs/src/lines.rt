@@ -19,10 +19,8 @@ fn put_points(
     ensures value { (result ≡ at + length (point_lines points.now section from (to - from))) × (result ≤ at + 55 * (to - from)) }
 {
     let mut k = at;
-    let mut i = from;
-    while i < to {
+    for i in from..to {
         k = put_point(section, points[2 * i], points[2 * i + 1], out, k);
-        i += 1;
     }
     k
 }
@@ -41,12 +39,10 @@ fn put_sections(
 {
     let mut k = at;
     let mut from = 0;
-    let mut s = 0;
-    while s < sections {
+    for s in 0..sections {
         let to = stops[s];
         k = put_points(s as u64, points, from, to, out, k);
         from = to;
-        s += 1;
     }
     k
 }

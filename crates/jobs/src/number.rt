@@ -2,22 +2,14 @@
 ghost use Rattle.std.specs.Prelude.{◌≡◌, ◌+◌, ◌*◌, ◌^◌, ◌≤◌, ◌<◌, length, drop};
 ghost use Rattle.jobs.specs.Job.{number, float, count};
 
-fn wide(b: u8) -> u64
-    ensures { result ≡ b }
-{
-    b as u64
-}
-
 // The number in the n bytes at a place.
 pub fn number_at(s: &[u8], at: usize, n: usize) -> u64
     requires { (at + n ≤ length s.now) × (n ≤ 8) }
     ensures { (result ≡ number at n s.now) × (result < 2 ^ (8 * n)) }
 {
     let mut v: u64 = 0;
-    let mut i = 0;
-    while i < n {
-        v = v * 256 + wide(s[at + i]);
-        i += 1;
+    for i in 0..n {
+        v = v * 256 + u64::from(s[at + i]);
     }
     v
 }

@@ -13,13 +13,11 @@ pub fn write_ends(s: &[u8], rings: usize, ends: &mut [usize])
 {
     let mut at = HEAD;
     let mut n = 0;
-    let mut i = 0;
-    while i < rings {
+    for i in 0..rings {
         let c = count_at(s, at);
         n += c;
         at += 2 + 16 * c;
         ends[i] = n;
-        i += 1;
     }
 }
 
@@ -28,10 +26,8 @@ fn write_floats(s: &[u8], at: usize, n: usize, out: &mut [f64])
     requires { (at + 8 * n ≤ length s.now) × (n ≤ length out.old) }
     ensures { out.new ≡ front (floats n (drop at s.now)) out.old }
 {
-    let mut i = 0;
-    while i < n {
+    for i in 0..n {
         out[i] = float_at(s, at + 8 * i);
-        i += 1;
     }
 }
 
@@ -42,13 +38,11 @@ pub fn write_corners(s: &[u8], rings: usize, corners: &mut [f64])
 {
     let mut at = HEAD;
     let mut n = 0;
-    let mut left = rings;
-    while left > 0 {
+    for _ in 0..rings {
         let c = count_at(s, at);
         let k = 2 * n;
         write_floats(s, at + 2, 2 * c, &mut corners[k..]);
         n += c;
         at += 2 + 16 * c;
-        left -= 1;
     }
 }

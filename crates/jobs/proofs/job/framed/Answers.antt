@@ -1,7 +1,6 @@
 use mathlib.Core.Path.{refl, sym, ◌∙◌}
 use native.Mathlib.Omega.{arith}
 use Rattle.jobs.specs.JobLaws.{counted_few, corners_length, framed_badly, framed_corners, framed_ends, framed_done}
-use borrow.Author.Rules.{rules}
 use Rattle.jobs.proofs.job.framed.Goals as goal
 
 pub overflow_cast-rings : goal.overflow_cast-rings

@@ -1,6 +1,5 @@
 use native.Mathlib.Omega.{arith}
 use Rattle.jobs.specs.Job.{job_of}
-use borrow.Author.Rules.{rules}
 use Rattle.jobs.proofs.job.job_of.Goals as goal
 
 pub overflow_cast-result : goal.overflow_cast-result

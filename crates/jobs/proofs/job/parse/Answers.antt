@@ -1,8 +1,6 @@
 use mathlib.Core.Path.{refl, sym, ◌∙◌}
-use borrow.Author.Tests.{not-true, not-false}
 use Rattle.jobs.specs.Job.{corners, ends}
 use Rattle.jobs.specs.JobLaws.{head_long, parsed_head, parsed_framed}
-use borrow.Author.Rules.{rules}
 use Rattle.jobs.proofs.job.parse.Goals as goal
 
 pub returns-then-not-good_head : goal.returns-then-not-good_head

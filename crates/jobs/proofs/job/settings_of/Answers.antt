@@ -1,5 +1,4 @@
 use Rattle.jobs.specs.Job.{settings_of}
-use borrow.Author.Rules.{rules}
 use Rattle.jobs.proofs.job.settings_of.Goals as goal
 
 pub returns : goal.returns

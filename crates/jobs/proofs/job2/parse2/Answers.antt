@@ -1,8 +1,6 @@
 use mathlib.Core.Path.{refl, sym, ◌∙◌}
 use native.Mathlib.Omega.{arith}
-use borrow.Author.Tests.{not-true, not-false}
 use Rattle.jobs.specs.Job2Laws.{head2_long, rings_long, parsed2_head, parsed2_refused, parsed2_done, left_kept, left_corners2, left_ends2}
-use borrow.Author.Rules.{rules}
 use Rattle.jobs.proofs.job2.parse2.Goals as goal
 
 pub returns-then-not-good_head2 : goal.returns-then-not-good_head2

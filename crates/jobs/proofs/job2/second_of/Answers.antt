@@ -1,5 +1,4 @@
 use Rattle.jobs.specs.Job2.{second_of}
-use borrow.Author.Rules.{rules}
 use Rattle.jobs.proofs.job2.second_of.Goals as goal
 
 pub returns : goal.returns

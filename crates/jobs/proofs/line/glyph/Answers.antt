@@ -1,6 +1,5 @@
 use borrow.Author.Tests.{lt-ltb, le-ltb}
 use Rattle.jobs.specs.Text.{glyph}
-use borrow.Author.Rules.{rules}
 use Rattle.jobs.proofs.line.glyph.Goals as goal
 
 pub returns-then-d-lt10 : goal.returns-then-d-lt10

@@ -3,7 +3,6 @@ use Prim.Native.Nat.{◌+◌}
 use native.Mathlib.Omega.{arith}
 use Rattle.jobs.specs.Text.{digits}
 use Rattle.jobs.proofs.Words.{digits_length, decimal_is, put_last, longer}
-use borrow.Author.Rules.{rules}
 use Rattle.jobs.proofs.line.put_decimal.Goals as goal
 
 pub returns : goal.returns

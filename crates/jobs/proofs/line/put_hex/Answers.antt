@@ -3,7 +3,6 @@ use Prim.Native.Nat.{◌+◌}
 use native.Mathlib.Omega.{arith}
 use Rattle.jobs.specs.Text.{digits}
 use Rattle.jobs.proofs.Words.{digits_length, hex_is, put_last}
-use borrow.Author.Rules.{rules}
 use Rattle.jobs.proofs.line.put_hex.Goals as goal
 
 pub returns : goal.returns

@@ -1,6 +1,5 @@
 use native.Mathlib.Omega.{arith}
 use Rattle.jobs.proofs.Words.{point_is}
-use borrow.Author.Rules.{rules}
 use Rattle.jobs.proofs.line.put_point.Goals as goal
 
 pub returns : goal.returns

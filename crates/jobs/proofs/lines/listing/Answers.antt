@@ -1,7 +1,6 @@
 -- The head line, then all others. Assumes nothing.
 use native.Mathlib.Omega.{arith}
 use Rattle.jobs.proofs.Printed.{listed}
-use borrow.Author.Rules.{rules}
 use Rattle.jobs.proofs.lines.listing.Goals as goal
 
 pub put_sections-requires : goal.put_sections-requires

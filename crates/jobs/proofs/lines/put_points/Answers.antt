@@ -1,7 +1,6 @@
 -- Up to point i the lines are put. Assumes nothing.
 use native.Mathlib.Omega.{arith}
-use Prim.Native.Nat.{◌-◌}
-use Rattle.jobs.proofs.Printed.{Points, points_start, points_next, points_end}
+use Rattle.jobs.proofs.Printed.{points_start, points_next, points_end}
 use borrow.Author.Rules.{rules}
 use Rattle.jobs.proofs.lines.put_points.Goals as goal
 

@@ -1,8 +1,6 @@
 -- Up to section s the lines are put. Assumes nothing.
 use native.Mathlib.Omega.{arith}
-use Prim.Native.Nat.{◌-◌, ◌≤◌}
-use lib.ListN.{length}
-use Rattle.jobs.proofs.Printed.{Sections, sections_start, sections_at, sections_next, sections_end}
+use Rattle.jobs.proofs.Printed.{sections_start, sections_at, sections_next, sections_end}
 use borrow.Author.Rules.{rules}
 use Rattle.jobs.proofs.lines.put_sections.Goals as goal
 

@@ -1,5 +1,4 @@
 use Rattle.jobs.specs.Job.{number, count}
-use borrow.Author.Rules.{rules}
 use Rattle.jobs.proofs.number.count_at.Goals as goal
 
 pub returns : goal.returns

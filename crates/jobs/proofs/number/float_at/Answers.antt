@@ -1,7 +1,6 @@
 use mathlib.Core.Path.{◌∙◌, ap}
 use lib.Ieee.{binary64, of_bits}
 use Rattle.jobs.specs.Job.{float}
-use borrow.Author.Rules.{rules}
 use Rattle.jobs.proofs.number.float_at.Goals as goal
 
 pub returns : goal.returns

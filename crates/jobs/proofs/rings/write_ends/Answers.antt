@@ -1,17 +1,15 @@
 -- The invariant: the rings to come are well framed, and their ends are what is left to write.
 use mathlib.Core.Path.{◌≡◌, sym, ap, ◌∙◌}
-use Prim.Native.Nat.{ℕ, ◌+◌, ◌-◌, ◌≤◌}
+use Prim.Native.Nat.{ℕ, ◌+◌, ◌-◌}
 use native.Mathlib.Omega.{arith}
-use lib.ListN.{length, drop, length-drop}
-use Rattle.seqs.specs.Front.{Front, front_start, front_at, front_push, front_end}
-use Rattle.jobs.specs.declared.frame.Framing.TheVariants.{Corners}
-use Rattle.jobs.specs.Job.{head, counted, ends_from}
-use Rattle.jobs.specs.JobLaws.{Ring, ring, behind_at, ends_turn, ends_none}
-use borrow.Author.Rules.{rules}
+use lib.ListN.{drop, length-drop}
+use Rattle.seqs.specs.Front.{front_start, front_at, front_push, front_end}
+use Rattle.jobs.specs.Job.{ends_from}
+use Rattle.jobs.specs.JobLaws.{ring, behind_at, ends_turn, ends_none}
 use Rattle.jobs.proofs.rings.write_ends.Goals as goal
 
 pub loop-i-init : goal.loop-i-init
-loop-i-init c = let e : c.args.rings - 0 ≡ c.args.rings = omega arith in ((c.requires.0.corners, rw e c.requires.0.is), rw e (front_start _ _), c.requires.0.long, omega arith)
+loop-i-init c = let e : c.args.rings - 0 ≡ c.args.rings = omega arith in ((c.requires.0.corners, rw e c.requires.0.is), rw e (front_start _ _), c.requires.0.long)
 
 pub count_at-c-requires : goal.count_at-c-requires
 count_at-c-requires c =
@@ -49,7 +47,7 @@ loop-i-preserved c =
     let b = behind_at s l.at _ e in
     let r = ring (c.args.rings - c.loop-i.i) c.loop-i.n (drop c.loop-i.at c.args.s.now) c.loop-i.invariant.0.0 (omega arith) c.loop-i.invariant.0.1 in
     let f = front_at (ends_turn (c.args.rings - l.i) l.n (drop l.at s) (omega arith)) l.invariant.1 in
-    ((l.invariant.0.0, rw (sym b, e, sym k) r.rest), rw (sym b, e, sym k) (front_push f (omega (arith, l.invariant.1.len))), omega (arith, r.whole, length-drop l.at s, e), omega arith)
+    ((l.invariant.0.0, rw (sym b, e, sym k) r.rest), rw (sym b, e, sym k) (front_push f (omega (arith, l.invariant.1.len))), omega (arith, r.whole, length-drop l.at s, e))
 
 pub shape_of-ends : goal.shape_of-ends
 shape_of-ends c = c.loop-i.invariant.1.len

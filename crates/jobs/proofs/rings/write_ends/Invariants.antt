@@ -1,17 +1,11 @@
 -- The invariant: the rings to come are well framed, and their ends are what is left to write.
-use mathlib.Core.Path.{◌≡◌, sym, ap, ◌∙◌}
-use Prim.Native.Nat.{ℕ, ◌+◌, ◌-◌, ◌≤◌}
-use native.Mathlib.Omega.{arith}
-use lib.ListN.{length, drop, length-drop}
-use Rattle.seqs.specs.Front.{Front, front_start, front_at, front_push, front_end}
+use mathlib.Core.Path.{◌≡◌}
+use Prim.Native.Nat.{ℕ, ◌-◌, ◌≤◌}
+use lib.ListN.{length, drop}
+use Rattle.seqs.specs.Front.{Front}
 use Rattle.jobs.specs.declared.frame.Framing.TheVariants.{Corners}
 use Rattle.jobs.specs.Job.{head, counted, ends_from}
-use Rattle.jobs.specs.JobLaws.{Ring, ring, behind_at, ends_turn, ends_none}
-use borrow.Author.Rules.{rules}
 use Rattle.jobs.proofs.rings.write_ends.Given as goal
 
 abbrev pub invariant-loop-i : goal.invariant-loop-i
-invariant-loop-i l = ((m : ℕ) × (counted (l.rings - l.i) l.n (drop l.at l.s) ≡ Corners m)) × Front l.initial.ends l.ends l.i (ends_from (l.rings - l.i) l.n (drop l.at l.s)) (ends_from l.rings 0 (drop head l.s)) × (l.at ≤ length l.s) × (l.i ≤ l.rings)
-
-abbrev pub decreases-loop-i : goal.decreases-loop-i
-decreases-loop-i l = l.rings - l.i
+invariant-loop-i l = ((m : ℕ) × (counted (l.rings - l.i) l.n (drop l.at l.s) ≡ Corners m)) × Front l.initial.ends l.ends l.i (ends_from (l.rings - l.i) l.n (drop l.at l.s)) (ends_from l.rings 0 (drop head l.s)) × (l.at ≤ length l.s)
