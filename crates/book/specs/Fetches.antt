@@ -1,6 +1,6 @@
 -- A fetch after a change: the number that was stored says its values, and every other number answers as before. Assumes nothing.
-use Rattle.std.specs.Prelude.{ℕ, ◌≤◌, ◌<◌, true, not, ◌&&◌, T, leb, eqb, length}
-use Rattle.std.proofs.Common.{lt_of_lt_of_le, arith, ap, ◌∙◌, lit≤}
+use Rattle.std.specs.Prelude.{ℕ, ◌≤◌, ◌<◌, true, not, ◌&&◌, T, eqb, length}
+use Rattle.std.proofs.Common.{arith, ap, ◌∙◌}
 use Rattle.std.proofs.Math.Path.{◌≡◌, refl, sym, subst}
 use Rattle.std.proofs.Math.Bool.{false}
 use Rattle.std.proofs.Math.Logic.{inl, inr}
@@ -13,9 +13,9 @@ use Rattle.limits.specs.Limits.{good_spacing, good_len, good_inset, good_stagger
 use Rattle.seqs.specs.Tests.{either, and_both}
 use Rattle.book.specs.declared.values.Values.{Values}
 use Rattle.book.specs.declared.fetching.Fetched.TheVariants.{Sheet}
-use Rattle.book.specs.Book.{version_of, number_of, values_of, good_values, sheets, stands, sheet_of, good_sheet, good_sheets, good_book, sheet_refusal, fetch_refusal, fetched, bytes, head_bytes, value_bytes, bits, sheet_bytes, replaced, without, store_bytes, store_refusal, after_store, remove_refusal, after_remove}
+use Rattle.book.specs.Book.{version_of, number_of, good_values, sheets, stands, sheet_of, good_sheet, good_sheets, good_book, sheet_refusal, fetch_refusal, fetched, bytes, head_bytes, value_bytes, bits, sheet_bytes, replaced, without, store_bytes, store_refusal, after_store, remove_refusal, after_remove}
 use Rattle.book.specs.KeepLaws.{sheet_length}
-use Rattle.book.specs.Back.{AllWhole, sheets_whole, stored_whole, all_replaced, filled_good, good_sheets_lem, store_back, remove_back, remove_good, after_remove_good}
+use Rattle.book.specs.Back.{sheets_whole, stored_whole, all_replaced, filled_good, good_sheets_lem, store_back, remove_back, remove_good, after_remove_good}
 use Rattle.book.specs.Stored.{number_back, values_back, sheet_replaced}
 
 -- ---- the sheets of other numbers

@@ -33,20 +33,13 @@ pub fn values_at(s: &[u8], at: usize) -> Values
     }
 }
 
+#[tactic(auto, unfolding(crate::specs::Book::good_values))]
 pub fn good_values(v: Values) -> bool
     ensures { result ≡ good_values v }
 {
-    if !limits::good_spacing(v.spacing) {
-        return false;
-    }
-    if !limits::good_len(v.len) {
-        return false;
-    }
-    if !limits::good_inset(v.inset) {
-        return false;
-    }
-    if !limits::good_inset(v.pull) {
-        return false;
-    }
-    limits::good_stagger(v.stagger)
+    limits::good_spacing(v.spacing)
+        && limits::good_len(v.len)
+        && limits::good_inset(v.inset)
+        && limits::good_inset(v.pull)
+        && limits::good_stagger(v.stagger)
 }

@@ -5,12 +5,6 @@ ghost use Rattle.book.specs.BookLaws.{Placed};
 
 use jobs::number::number_at;
 
-pub fn wide(n: u16) -> u64
-    ensures { result ≡ n }
-{
-    n as u64
-}
-
 // The bytes of the whole sheet at a place, or 0.
 pub fn size_at(s: &[u8], at: usize) -> usize
     requires { at ≤ length s.now }
@@ -33,7 +27,7 @@ pub fn size_at(s: &[u8], at: usize) -> usize
 pub fn place(s: &[u8], number: u16) -> usize
     ensures { Placed number s.now result }
 {
-    let sought = wide(number);
+    let sought = u64::from(number);
     let mut at = 0;
     let mut n = size_at(s, 0);
     while n > 0 {

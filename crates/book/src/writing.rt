@@ -4,7 +4,6 @@ ghost use Rattle.seqs.specs.Slices.{Put};
 ghost use Rattle.book.specs.Book.{bytes, head_bytes, value_bytes, sheet_bytes};
 
 use crate::values::Values;
-use crate::walk::wide;
 use leaves::to_bits;
 
 // The last k bytes of a number from a place on, found from the back.
@@ -13,9 +12,7 @@ fn put_number(v: u64, k: usize, out: &mut [u8], at: usize)
     ensures { Put out.old out.new at (bytes k v) }
 {
     let mut rest = v;
-    let mut i = k;
-    while i > 0 {
-        i -= 1;
+    for i in (0..k).rev() {
         out[at + i] = (rest % 256) as u8;
         rest /= 256;
     }
@@ -28,7 +25,7 @@ fn put_head(number: u16, out: &mut [u8], at: usize)
 {
     put_number(39, 2, out, at);
     put_number(1, 1, out, at + 2);
-    put_number(wide(number), 2, out, at + 3);
+    put_number(u64::from(number), 2, out, at + 3);
 }
 
 fn put_values(v: Values, out: &mut [u8], at: usize)
@@ -56,11 +53,7 @@ pub fn zero_from(s: &mut [u8], at: usize)
     requires { at ≤ length s.old }
     ensures { s.new ≡ take at s.old ++ replicate (length s.old - at) 0 }
 {
-    let mut i = at;
-    while i < s.len() {
-        s[i] = 0;
-        i += 1;
-    }
+    s[at..].fill(0);
 }
 
 // The bytes from one place to another, moved forward.
@@ -68,11 +61,5 @@ pub fn move_down(s: &mut [u8], to: usize, from: usize, end: usize)
     requires { (to ≤ from) × (from ≤ end) × (end ≤ length s.old) }
     ensures { (take (to + (end - from)) s.new ≡ take to s.old ++ drop from (take end s.old)) × (length s.new ≡ length s.old) }
 {
-    let mut i = from;
-    let mut j = to;
-    while i < end {
-        s[j] = s[i];
-        i += 1;
-        j += 1;
-    }
+    s.copy_within(from..end, to);
 }

@@ -3,7 +3,6 @@ use lib.ListN.{length, drop, length-drop}
 use borrow.Author.Tests.{le-leb, lt-leb}
 use Rattle.book.specs.Book.{ended}
 use Rattle.book.specs.BookLaws.{number_here}
-use borrow.Author.Rules.{rules}
 use Rattle.book.proofs.framing.ends_at.Goals as goal
 
 pub returns-then-s-at-lt2 : goal.returns-then-s-at-lt2

@@ -1,12 +1,9 @@
 -- The invariant: what is left is as good as the whole, and the size of the sheet that is reached.
-use mathlib.Core.Path.{◌≡◌, refl, sym, ◌∙◌}
-use Prim.Native.Nat.{◌+◌, ◌-◌, ◌≤◌}
+use mathlib.Core.Path.{refl, sym, ◌∙◌}
 use native.Mathlib.Omega.{arith}
-use lib.ListN.{length, drop}
+use lib.ListN.{drop}
 use Rattle.seqs.specs.Tests.{passed, failed}
-use Rattle.book.specs.Book.{size, good_book}
 use Rattle.book.specs.BookLaws.{size_five, good_bad, good_twice, good_next, good_end}
-use borrow.Author.Rules.{rules}
 use mathlib.Core.Bool.{not}
 use mathlib.Core.Path.{ap}
 use Rattle.book.proofs.framing.good_book.Goals as goal

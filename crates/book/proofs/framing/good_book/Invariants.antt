@@ -1,12 +1,8 @@
 -- The invariant: what is left is as good as the whole, and the size of the sheet that is reached.
-use mathlib.Core.Path.{◌≡◌, refl, sym, ◌∙◌}
+use mathlib.Core.Path.{◌≡◌}
 use Prim.Native.Nat.{◌+◌, ◌-◌, ◌≤◌}
-use native.Mathlib.Omega.{arith}
 use lib.ListN.{length, drop}
-use Rattle.seqs.specs.Tests.{passed, failed}
 use Rattle.book.specs.Book.{size, good_book}
-use Rattle.book.specs.BookLaws.{size_five, good_bad, good_twice, good_next, good_end}
-use borrow.Author.Rules.{rules}
 use Rattle.book.proofs.framing.good_book.Given as goal
 
 abbrev pub invariant-loop-n : goal.invariant-loop-n

@@ -1,6 +1,5 @@
 use mathlib.Core.Path.{sym}
 use Rattle.book.specs.BookLaws.{sheet_one, sheet_other}
-use borrow.Author.Rules.{rules}
 use Rattle.book.proofs.framing.good_sheet.Goals as goal
 
 pub returns-then-version-eq1 : goal.returns-then-version-eq1

@@ -1,6 +1,5 @@
 use mathlib.Core.Path.{sym}
 use Rattle.book.specs.BookLaws.{placed_is}
-use borrow.Author.Rules.{rules}
 use Rattle.book.proofs.framing.stands.Goals as goal
 
 pub size_at-requires : goal.size_at-requires

@@ -1,6 +1,5 @@
 use Rattle.book.specs.Book.{values_of}
 use Rattle.book.specs.BookLaws.{float_at, number_at}
-use borrow.Author.Rules.{rules}
 use Rattle.book.proofs.values.values_at.Goals as goal
 
 pub returns : goal.returns

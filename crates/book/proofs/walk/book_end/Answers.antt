@@ -1,11 +1,8 @@
 -- The invariant: from the place on, the end is the same.
-use mathlib.Core.Path.{◌≡◌, sym, ◌∙◌}
-use Prim.Native.Nat.{◌+◌, ◌-◌, ◌≤◌}
+use mathlib.Core.Path.{sym, ◌∙◌}
 use native.Mathlib.Omega.{arith}
-use lib.ListN.{length, drop}
-use Rattle.book.specs.Book.{size, sheets, joined}
+use lib.ListN.{drop}
 use Rattle.book.specs.KeepLaws.{end_on, end_here}
-use borrow.Author.Rules.{rules}
 use Rattle.book.proofs.walk.book_end.Goals as goal
 
 pub loop-n-init : goal.loop-n-init

@@ -1,12 +1,9 @@
 -- The invariant: the way so far, and the size of the sheet that is reached.
-use mathlib.Core.Path.{◌≡◌, sym, ◌∙◌}
+use mathlib.Core.Path.{sym, ◌∙◌}
 use mathlib.Core.Logic.{inl, inr}
-use Prim.Native.Nat.{◌+◌, ◌-◌, ◌≤◌}
 use native.Mathlib.Omega.{arith}
-use lib.ListN.{length, drop}
 use borrow.Author.Tests.{ne_eqb}
-use Rattle.book.specs.Book.{size}
-use Rattle.book.specs.BookLaws.{Way, way_start, way_on, size_five, number_of_at}
+use Rattle.book.specs.BookLaws.{way_start, way_on, size_five, number_of_at}
 use borrow.Author.Rules.{rules}
 use Rattle.book.proofs.walk.place.Goals as goal
 
@@ -25,13 +22,13 @@ pub returns-then-number_at-sought : goal.returns-then-number_at-sought
 returns-then-number_at-sought c =
     let l = c.loop-n in
     let s = c.args.s.now in
-    record { way = l.invariant.0; here = inr (sym (number_of_at s l.at) ∙ sym c.number_at.ensures.0 ∙ c.if-number_at-sought.true ∙ c.wide-sought.ensures) }
+    record { way = l.invariant.0; here = inr (sym (number_of_at s l.at) ∙ sym c.number_at.ensures.0 ∙ c.if-number_at-sought.true ∙ c.from-sought.ensures) }
 
 pub loop-n-preserved : goal.loop-n-preserved
 loop-n-preserved c =
     let l = c.loop-n in
     let s = c.args.s.now in
-    (way_on _ s l.at l.n l.invariant.0 l.invariant.1 (omega arith) (ne_eqb _ _ (λ e. c.if-number_at-sought.false (c.number_at.ensures.0 ∙ number_of_at s l.at ∙ e ∙ sym c.wide-sought.ensures))), c.size_at-n-in-loop-n.ensures.0, c.size_at-n-in-loop-n.ensures.1)
+    (way_on _ s l.at l.n l.invariant.0 l.invariant.1 (omega arith) (ne_eqb _ _ (λ e. c.if-number_at-sought.false (c.number_at.ensures.0 ∙ number_of_at s l.at ∙ e ∙ sym c.from-sought.ensures))), c.size_at-n-in-loop-n.ensures.0, c.size_at-n-in-loop-n.ensures.1)
 
 pub returns : goal.returns
 returns c =

@@ -2,7 +2,6 @@ use mathlib.Core.Path.{sym, ◌∙◌}
 use native.Mathlib.Omega.{arith}
 use lib.ListN.{drop, length-drop}
 use Rattle.book.specs.BookLaws.{size_short, size_small, size_past, size_whole, number_here}
-use borrow.Author.Rules.{rules}
 use Rattle.book.proofs.walk.size_at.Goals as goal
 
 pub returns-then-s-at-lt2 : goal.returns-then-s-at-lt2

@@ -1,28 +1,25 @@
 -- The invariant: what is left to write stands before place at + i, and behind it what is written.
 use mathlib.Core.Path.{◌≡◌}
-use Prim.Native.Nat.{◌≤◌}
 use native.Mathlib.Omega.{arith}
-use Rattle.book.specs.Book.{bytes}
-use Rattle.book.proofs.Numbers.{Back, back_start, back_turn, back_end}
-use borrow.Author.Rules.{rules}
+use Rattle.book.proofs.Numbers.{back_start, back_turn, back_end}
 use Rattle.book.proofs.writing.put_number.Goals as goal
 
 pub loop-i-init : goal.loop-i-init
-loop-i-init c = (back_start _ _ _ _, omega arith)
+loop-i-init c = back_start _ _ _ _
 
 pub bounds-out-at : goal.bounds-out-at
-bounds-out-at c = omega (arith, c.loop-i.invariant.0.size)
+bounds-out-at c = omega (arith, c.loop-i.invariant.size)
 
 pub loop-i-preserved : goal.loop-i-preserved
 loop-i-preserved c =
     let l = c.loop-i in
-    (back_turn l.rest l.i (omega arith) (omega arith) l.invariant.0, omega arith)
+    back_turn l.rest l.i (omega arith) (omega arith) l.invariant
 
 pub shape_of-out : goal.shape_of-out
-shape_of-out c = c.loop-i.invariant.0.size
+shape_of-out c = c.loop-i.invariant.size
 
 pub returns : goal.returns
 returns c =
     let l = c.loop-i in
     let e : l.i ≡ 0 = omega arith in
-    back_end l.rest (omega arith) (rw e at l.invariant.0)
+    back_end l.rest (omega arith) (rw e at l.invariant)

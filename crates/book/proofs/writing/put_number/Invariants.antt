@@ -1,14 +1,7 @@
 -- The invariant: what is left to write stands before place at + i, and behind it what is written.
-use mathlib.Core.Path.{◌≡◌}
-use Prim.Native.Nat.{◌≤◌}
-use native.Mathlib.Omega.{arith}
 use Rattle.book.specs.Book.{bytes}
-use Rattle.book.proofs.Numbers.{Back, back_start, back_turn, back_end}
-use borrow.Author.Rules.{rules}
+use Rattle.book.proofs.Numbers.{Back}
 use Rattle.book.proofs.writing.put_number.Given as goal
 
 abbrev pub invariant-loop-i : goal.invariant-loop-i
-invariant-loop-i l = Back l.initial.out l.out l.at l.i (bytes l.i l.rest) (bytes l.k l.v) × (l.i ≤ l.k)
-
-abbrev pub decreases-loop-i : goal.decreases-loop-i
-decreases-loop-i l = l.i
+invariant-loop-i l = Back l.initial.out l.out l.at l.i (bytes l.i l.rest) (bytes l.k l.v)

@@ -3,7 +3,6 @@ use native.Mathlib.Omega.{arith}
 use Rattle.seqs.specs.Put.{put_then}
 use Rattle.book.specs.Book.{head_bytes, value_bytes, sheet_bytes}
 use Rattle.book.specs.KeepLaws.{head_length}
-use borrow.Author.Rules.{rules}
 use Rattle.book.proofs.writing.put_sheet.Goals as goal
 
 pub returns : goal.returns

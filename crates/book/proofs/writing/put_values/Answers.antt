@@ -6,7 +6,6 @@ use lib.ListN.{length, length-append}
 use Rattle.seqs.specs.Put.{put_then}
 use Rattle.book.specs.Book.{bytes, bits, value_bytes}
 use Rattle.book.specs.KeepLaws.{bits_length}
-use borrow.Author.Rules.{rules}
 use Rattle.book.proofs.writing.put_values.Goals as goal
 
 pub returns : goal.returns
