@@ -95,9 +95,18 @@ fn pick(
     requires { Measured corners.now ends.now h.now × (here < points_of g) × (points_of g ≤ most_points) × (points_of g ≤ length w.now) }
     ensures { (option_to_list result.way ≡ open_way (link_ok (rings corners.now ends.now) rule g) (take (points_of g) w.now) here (shuffle (neighbours g here) seed).order) × (result.seed ≡ (shuffle (neighbours g here) seed).seed) }
 {
-    let mut ways = [0usize; 4];
-    let m = neighbours(&mut ways, g, here);
-    pick_of(&mut ways[0..m], w, corners, ends, h, rule, g, here, seed)
+    let mut ways = neighbours(g, here);
+    pick_of(
+        ways.as_mut_slice(),
+        w,
+        corners,
+        ends,
+        h,
+        rule,
+        g,
+        here,
+        seed,
+    )
 }
 
 // A turn of the walk.
