@@ -1,7 +1,7 @@
 -- Document 01's table of answers, by name and number; and what a call that answers one value says: the number, and the value where it is DONE.
 use Rattle.std.specs.Prelude.{ℕ, Bool, true, false, cond, eqb, List, [], ◌∷◌, Result, Ok, Err}
 use Rattle.refusal.specs.declared.Refusal.{Refusal}
-use Rattle.refusal.specs.declared.Refusal.TheVariants.{Layout, Number, Setting, Turn, Size, Work, Room}
+use Rattle.refusal.specs.declared.Refusal.TheVariants.{Layout, Number, Setting, Turn, Size, Work, Room, Record, Cut, Absent, Version}
 
 abbrev pub DONE : ℕ
 DONE = 0
@@ -36,6 +36,10 @@ number Turn = TURN
 number Size = SIZE
 number Work = WORK
 number Room = ROOM
+number Record = 8
+number Cut = 9
+number Absent = 10
+number Version = 11
 
 -- a check answers DONE where its test holds, and its number where it doesn't
 abbrev pub unless : ℕ → Bool → ℕ

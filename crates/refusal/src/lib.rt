@@ -1,4 +1,4 @@
-// Document 01's table of answers: why a call refuses. A request adds its own below.
+// Document 01's table of answers, with those that requests add: why a call refuses.
 #![tactic(auto)]
 
 ghost use Rattle.std.specs.Prelude.{◌≡◌};
@@ -23,6 +23,14 @@ pub enum Refusal {
     Work,
     // An output slice below the answer.
     Room,
+    // A stitch record that is turned away: request [5].
+    Record,
+    // The bytes run out before an end record.
+    Cut,
+    // The number of a sheet fetched or removed doesn't stand: request [13].
+    Absent,
+    // The sheet is of a later version.
+    Version,
 }
 
 // The table's number.
@@ -40,6 +48,10 @@ impl From<Refusal> for u64 {
             Refusal::Size => 5,
             Refusal::Work => 6,
             Refusal::Room => 7,
+            Refusal::Record => 8,
+            Refusal::Cut => 9,
+            Refusal::Absent => 10,
+            Refusal::Version => 11,
         }
     }
 }
@@ -54,6 +66,10 @@ impl fmt::Display for Refusal {
             Refusal::Size => write!(f, "too many rows, cells or pairs"),
             Refusal::Work => write!(f, "a working slice below the need"),
             Refusal::Room => write!(f, "an output slice below the answer"),
+            Refusal::Record => write!(f, "a stitch record that is turned away"),
+            Refusal::Cut => write!(f, "no end record"),
+            Refusal::Absent => write!(f, "no sheet of this number"),
+            Refusal::Version => write!(f, "a sheet of a later version"),
         }
     }
 }
