@@ -1,10 +1,9 @@
 -- The answer of `dst`, its checks in document 01's order. Definitions only.
 use Rattle.std.specs.Prelude.{ℕ, ◌%◌, List, eqb, leb, length, Float}
 use Rattle.refusal.specs.Refusal.{LAYOUT, NUMBER, ROOM, unless, ◌then◌}
-use Rattle.refusal.specs.Sewn.{written, output}
+use Rattle.refusal.specs.Sewn.{Written, written, output}
 use Rattle.limits.specs.Limits.{good_numbers}
 use Rattle.geom.specs.Outline.{points}
-use Rattle.refusal.specs.declared.Written.{Written}
 use Rattle.dst.specs.Thread.{dst_bytes}
 
 -- `room` is the length of the output slice

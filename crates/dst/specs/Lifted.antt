@@ -1,6 +1,7 @@
 -- What the code's lifted coordinates stand for: it counts from -100,000, so that no number is negative. Definitions only.
-use Rattle.std.specs.Prelude.{ℕ, ◌≤◌, ℤ, pos, ◌-ℤ◌}
+use Rattle.std.specs.Prelude.{ℕ, ℤ, pos, ◌-ℤ◌}
 use Rattle.dst.specs.Thread.{Whole, whole}
+use Rattle.dst.specs.declared.place.Place.{Place}
 
 unfoldable pub lowered : ℕ → ℤ
 lowered n = pos n -ℤ pos 100000
@@ -8,9 +9,6 @@ lowered n = pos n -ℤ pos 100000
 abbrev pub whole_at : ℕ → ℕ → Whole
 whole_at x y = whole (lowered x) (lowered y)
 
--- each coordinate of two places is at most 100,000 in size
-pub record Framed (ax ay bx by : ℕ) : Type 0 where
-  pub ax_fits : ax ≤ 200000
-  pub ay_fits : ay ≤ 200000
-  pub bx_fits : bx ≤ 200000
-  pub by_fits : by ≤ 200000
+-- where a place stands
+abbrev pub standing : Place → Whole
+standing p = whole_at p.x p.y

@@ -99,6 +99,9 @@ pub cut_first : (a d : ℤ) (n : ℕ) → cut_at a d n 0 ≡ a
 unfolding cut_at
 cut_first a d n = rw (quotient_none d n) (here a)
 
+pub cut_none : (a d : Whole) (n : ℕ) → cut a d n 0 ≡ a
+cut_none a d n = rw (cut_first a.x d.x n, cut_first a.y d.y n)
+
 end_there : (a b : ℤ) (n : ℕ) → 0 < n → cut_at a (b -ℤ a) n n ≡ b
 unfolding cut_at
 end_there a b n N = rw (quotient_all (b -ℤ a) n N) (there a b)

@@ -5,9 +5,10 @@ ghost use Rattle.geom.specs.Outline.{points as points_of};
 ghost use Rattle.limits.specs.Limits.{good_numbers};
 ghost use Rattle.dst.specs.Thread.{origin, thread, dst_bytes};
 
+use crate::place::Place;
 use crate::records::put_end;
-use crate::rounding::{LIFT, lifted};
 use crate::way::{parts, put_way};
+use geom::flat::Points;
 use geom::sewing::add_within;
 
 // How many records there are, the end counted, or room + 1 where they pass the room.
@@ -16,16 +17,11 @@ pub fn count(points: &[f64], room: u64) -> u64
     ensures { result ≡ capped room (1 + length (thread origin (points_of points.now))) }
 {
     let mut c: u64 = 1;
-    let mut x = LIFT;
-    let mut y = LIFT;
-    let mut i = 0;
-    while i + 1 < points.len() {
-        let nx = lifted(points[i]);
-        let ny = lifted(points[i + 1]);
-        c = add_within(c, parts(x, y, nx, ny), room);
-        x = nx;
-        y = ny;
-        i += 2;
+    let mut from = Place::origin();
+    for p in Points::of(points) {
+        let to = Place::of(p);
+        c = add_within(c, parts(from, to), room);
+        from = to;
     }
     c
 }
@@ -36,16 +32,11 @@ pub fn write(points: &[f64], out: &mut [u8])
     ensures { out.new ≡ dst_bytes (points_of points.now) ++ drop (length (dst_bytes (points_of points.now))) out.old }
 {
     let mut k = 0;
-    let mut x = LIFT;
-    let mut y = LIFT;
-    let mut i = 0;
-    while i + 1 < points.len() {
-        let nx = lifted(points[i]);
-        let ny = lifted(points[i + 1]);
-        k = put_way(out, k, x, y, nx, ny);
-        x = nx;
-        y = ny;
-        i += 2;
+    let mut from = Place::origin();
+    for p in Points::of(points) {
+        let to = Place::of(p);
+        k = put_way(out, k, from, to);
+        from = to;
     }
     put_end(out, k);
 }

@@ -1,18 +1,18 @@
-// The way from one rounded point to the next: one stitch, or jumps and a stitch where it is too long for one. Coordinates come lifted.
-ghost use Rattle.std.specs.Prelude.{◌≡◌, ◌+◌, ◌<◌, ◌≤◌, max, nat_abs, ◌-ℤ◌, length};
+// The way from one rounded point to the next: one stitch, or jumps and a stitch where it is too long for one.
+ghost use Rattle.std.specs.Prelude.{◌≡◌, ◌+◌, ◌<◌, ◌≤◌, ◌-ℤ◌, length};
 ghost use Rattle.seqs.specs.Slices.{put};
-ghost use Rattle.dst.specs.Thread.{parts, cut_at, kind_at, move, way, records_from};
-ghost use Rattle.dst.specs.Lifted.{lowered, whole_at, Framed};
+ghost use Rattle.dst.specs.Thread.{parts, cut_at, cut as Thread·cut, kind_at, move, way, records_from};
+ghost use Rattle.dst.specs.Lifted.{lowered, standing};
 
+use crate::place::Place;
 use crate::records::{Kind, put_record};
 
 // How many records the way takes.
-pub fn parts(ax: u64, ay: u64, bx: u64, by: u64) -> u64
-    requires { Framed ax ay bx by }
-    ensures { (result ≡ parts (move (whole_at ax ay) (whole_at bx by))) × (result ≤ 1700) }
+pub fn parts(a: Place, b: Place) -> u64
+    ensures { (result ≡ parts (move (standing a) (standing b))) × (result ≤ 1700) }
 {
-    let x = ax.abs_diff(bx).div_ceil(121);
-    let y = ay.abs_diff(by).div_ceil(121);
+    let x = a.x.abs_diff(b.x).div_ceil(121);
+    let y = a.y.abs_diff(b.y).div_ceil(121);
     x.max(y).max(1)
 }
 
@@ -27,6 +27,17 @@ fn cut(a: u64, b: u64, n: u64, i: u64) -> u64
     a - i * (a - b) / n
 }
 
+// The same of places.
+fn between(a: Place, b: Place, n: u64, i: u64) -> Place
+    requires { (0 < n) × (i ≤ n) × (n ≤ 1700) }
+    ensures { standing result ≡ Thread·cut (standing a) (move (standing a) (standing b)) n i }
+{
+    Place {
+        x: cut(a.x, b.x, n, i),
+        y: cut(a.y, b.y, n, i),
+    }
+}
+
 // Each part but the last is a jump.
 fn kind_at(i: u64, n: u64) -> Kind
     ensures { result ≡ kind_at i n }
@@ -38,20 +49,23 @@ fn kind_at(i: u64, n: u64) -> Kind
 }
 
 // Its records from `at` on; answers the place behind them.
-pub fn put_way(out: &mut [u8], at: usize, ax: u64, ay: u64, bx: u64, by: u64) -> usize
-    requires { Framed ax ay bx by × (at + length (records_from (whole_at ax ay) (way (whole_at ax ay) (whole_at bx by))) ≤ length out.old) }
-    ensures { (out.new ≡ put out.old at (records_from (whole_at ax ay) (way (whole_at ax ay) (whole_at bx by)))) × (result ≡ at + length (records_from (whole_at ax ay) (way (whole_at ax ay) (whole_at bx by)))) }
+pub fn put_way(out: &mut [u8], at: usize, a: Place, b: Place) -> usize
+    requires { at + length (records_from (standing a) (way (standing a) (standing b))) ≤ length out.old }
+    ensures { (out.new ≡ put out.old at (records_from (standing a) (way (standing a) (standing b)))) × (result ≡ at + length (records_from (standing a) (way (standing a) (standing b)))) }
 {
-    let n = parts(ax, ay, bx, by);
+    let n = parts(a, b);
     let mut k = at;
-    let mut x = ax;
-    let mut y = ay;
+    let mut from = a;
     for i in 1..=n {
-        let nx = cut(ax, bx, n, i);
-        let ny = cut(ay, by, n, i);
-        put_record(out, k, kind_at(i, n), 121 + nx - x, 121 + ny - y);
-        x = nx;
-        y = ny;
+        let to = between(a, b, n, i);
+        put_record(
+            out,
+            k,
+            kind_at(i, n),
+            121 + to.x - from.x,
+            121 + to.y - from.y,
+        );
+        from = to;
         k += 3;
     }
     k

@@ -1,48 +1,40 @@
--- `count` meets its contract: the records so far and those of the points from i on come to the answer. Assumes nothing.
-use mathlib.Core.Path.{◌≡◌, sym, ap, ◌∙◌}
+-- `count` meets its contract: the records so far and those of the points to come come to the answer. Assumes nothing.
+use mathlib.Core.Path.{◌≡◌, refl, sym, ap, ◌∙◌}
+use mathlib.Core.List.{◌∷◌}
 use Prim.Native.Nat.{◌+◌}
 use native.Mathlib.Omega.{arith}
-use lib.ListN.{length, drop}
+use lib.ListN.{length}
+use Rattle.seqs.specs.Lists.{every}
 use Rattle.seqs.specs.Slices.{capped}
 use Rattle.seqs.specs.Capped.{capped_small, capped_on, capped_still}
-use Rattle.geom.specs.Outline.{points}
+use Rattle.seqs.specs.Tests.{and_both}
+use Rattle.limits.specs.Limits.{good_point}
 use Rattle.dst.specs.Thread.{thread}
-use Rattle.dst.specs.Lifted.{whole_at}
-use Rattle.dst.specs.LiftedLaws.{lifted_origin}
-use Rattle.dst.proofs.ThreadSteps.{numbers_at, count_turn, count_stop}
-use borrow.Author.Rules.{rules}
+use Rattle.dst.specs.ThreadLaws.{thread_count}
+use Rattle.dst.specs.Lifted.{standing}
+use Rattle.dst.proofs.ThreadSteps.{good_points}
 use Rattle.dst.proofs.thread.count.Goals as goal
 
-pub loop-i-init : goal.loop-i-init
-loop-i-init c = (omega arith, omega arith, omega arith, rw lifted_origin, omega arith)
+pub loop-p-init : goal.loop-p-init
+loop-p-init c = rw (c.into_iter-p-iterator.ensures.into_iter_gives, c.of-p-items.ensures, c.origin-from.ensures) (omega arith, good_points c.args.points.now c.requires.0, refl)
 
-pub lifted-nx-requires : goal.lifted-nx-requires
-lifted-nx-requires c = numbers_at c.args.points.now c.loop-i.i c.requires.0 (search rules)
+pub of-to-requires : goal.of-to-requires
+of-to-requires c = (and_both (good_point c.in-Some.p) (every good_point c.next.new.self) (rw c.in-Some.ensures.steps at c.loop-p.invariant.1)).0
 
-pub lifted-ny-requires : goal.lifted-ny-requires
-lifted-ny-requires c = numbers_at c.args.points.now (c.loop-i.i + 1) c.requires.0 (search rules)
-
-pub parts-requires : goal.parts-requires
-parts-requires c = record { ax_fits = c.loop-i.invariant.1; ay_fits = c.loop-i.invariant.2; bx_fits = c.lifted-nx.ensures.1; by_fits = c.lifted-ny.ensures.1 }
-
-pub add_within-c-requires : goal.add_within-c-requires
-add_within-c-requires c = c.requires.1
-
-pub loop-i-preserved : goal.loop-i-preserved
-loop-i-preserved c =
+pub loop-p-preserved : goal.loop-p-preserved
+loop-p-preserved c =
     let a = c.args in
-    let l = c.loop-i in
-    let u = whole_at l.x l.y in
-    let v = whole_at c.lifted-nx.result c.lifted-ny.result in
-    let rest = length (thread v (points (drop (l.i + 2) a.points.now))) in
-    let t = count_turn u a.points.now l.i c.lifted-nx.result c.lifted-ny.result (search rules) c.lifted-nx.ensures.0 c.lifted-ny.ensures.0 in
-    let e : l.c + c.parts.result + rest ≡ l.c + length (thread u (points (drop l.i a.points.now))) = omega (arith, t, c.parts.ensures.0) in
-    (rw c.add_within-c.ensures (capped_small a.room (l.c + c.parts.result)), c.lifted-nx.ensures.1, c.lifted-ny.ensures.1, rw c.add_within-c.ensures (capped_on a.room (l.c + c.parts.result) rest ∙ ap (capped a.room) e ∙ l.invariant.3), search rules)
+    let l = c.loop-p in
+    let i = rw c.in-Some.ensures.steps at l.invariant in
+    let rest = length (thread (standing c.of-to.result) c.next.new.self) in
+    let t = thread_count (standing l.from) c.in-Some.p c.next.new.self in
+    let e : l.c + c.parts.result + rest ≡ l.c + length (thread (standing l.from) (c.in-Some.p ∷ c.next.new.self)) = omega (arith, rw (← c.of-to.ensures) at t, c.parts.ensures.0) in
+    rw c.add_within-c.ensures (capped_small a.room (l.c + c.parts.result), (and_both (good_point c.in-Some.p) (every good_point c.next.new.self) i.1).1, capped_on a.room (l.c + c.parts.result) rest ∙ ap (capped a.room) e ∙ i.2)
 
 pub returns : goal.returns
+unfolding thread
 returns c =
-    let a = c.args in
-    let l = c.loop-i in
-    let t = count_stop (whole_at l.x l.y) a.points.now l.i (search rules) in
-    let e : l.c ≡ l.c + length (thread (whole_at l.x l.y) (points (drop l.i a.points.now))) = omega (arith, t) in
-    sym (capped_still a.room l.c l.invariant.0) ∙ ap (capped a.room) e ∙ l.invariant.3
+    let l = c.loop-p in
+    let i = rw c.in-None.ensures.steps.0 at l.invariant in
+    let e : l.c ≡ l.c + 0 = omega arith in
+    sym (capped_still c.args.room l.c i.0) ∙ ap (capped c.args.room) e ∙ i.2

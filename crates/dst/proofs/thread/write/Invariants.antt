@@ -1,16 +1,15 @@
--- `write` meets its contract: the records of the points from i on, and the end, are to be written from k on. Assumes nothing.
+-- `write` meets its contract: the records of the points to come, and the end, are to be written from k on. Assumes nothing.
+use mathlib.Core.Path.{◌≡◌}
+use mathlib.Core.Bool.{true}
 use mathlib.Core.List.{◌++◌}
-use Prim.Native.Nat.{◌-◌, ◌≤◌}
-use lib.ListN.{length, drop}
 use Rattle.seqs.specs.Front.{Front}
+use Rattle.seqs.specs.Lists.{every}
 use Rattle.geom.specs.Outline.{points}
+use Rattle.limits.specs.Limits.{good_point}
 use Rattle.dst.specs.Records.{end_record}
 use Rattle.dst.specs.Thread.{thread, records_from, dst_bytes}
-use Rattle.dst.specs.Lifted.{whole_at}
+use Rattle.dst.specs.Lifted.{standing}
 use Rattle.dst.proofs.thread.write.Given as goal
 
-abbrev pub invariant-loop-i : goal.invariant-loop-i
-invariant-loop-i l = (l.x ≤ 200000) × (l.y ≤ 200000) × Front l.initial.out l.out l.k (records_from (whole_at l.x l.y) (thread (whole_at l.x l.y) (points (drop l.i l.points))) ++ end_record) (dst_bytes (points l.points)) × (l.i ≤ length l.points)
-
-abbrev pub decreases-loop-i : goal.decreases-loop-i
-decreases-loop-i l = length l.points - l.i
+abbrev pub invariant-loop-p : goal.invariant-loop-p
+invariant-loop-p l = (every good_point l.p-iterator ≡ true) × Front l.initial.out l.out l.k (records_from (standing l.from) (thread (standing l.from) l.p-iterator) ++ end_record) (dst_bytes (points l.points))

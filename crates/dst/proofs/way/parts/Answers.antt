@@ -6,8 +6,6 @@ use Rattle.dst.proofs.way.parts.Goals as goal
 pub returns : goal.returns
 unfolding parts
 returns c =
-    let a = c.args in
-    let x = gap_is a.ax a.bx in
-    let y = gap_is a.ay a.by in
-    let p = c.requires in
-    rw (x, y) (omega arith, omega arith)
+    let a = c.args.a in
+    let b = c.args.b in
+    rw (gap_is a.x b.x, gap_is a.y b.y) (omega arith, omega arith)
