@@ -1,8 +1,10 @@
 -- The turn of the loop that links pieces from the last back. Assumes nothing.
 use mathlib.Core.Path.{◌≡◌, refl, sym, ap, ◌∙◌}
 use mathlib.Core.Logic.{inl, inr}
-use mathlib.Core.List.{List, ◌∷◌}
-use Prim.Native.Nat.{ℕ, zero, suc, ◌+◌, ◌*◌, ◌<◌}
+use mathlib.Core.List.{List, ◌∷◌, ◌++◌, append_assoc}
+use Rattle.std.proofs.Common.{length-take-le, length-drop, drop-drop}
+use Rattle.seqs.specs.Wrote.{head_length}
+use Prim.Native.Nat.{ℕ, zero, suc, ◌+◌, ◌-◌, ◌*◌, ◌≤◌, ◌<◌}
 use native.Mathlib.Omega.{arith}
 use lib.Dec.{eqb}
 use lib.ListN.{length, take, drop, get_or, set, length-set, replicate, length-replicate}
@@ -94,3 +96,11 @@ module _ (n sections : ℕ) (d d₁ : List ℕ) (m : Marked n sections d) (p : P
       linking_put n sections (numbers_in n d) (numbers_length n d) d d₁ d₂ m.room size t
       (put_behind d d₁ (replicate sections n) (4 * n) (4 * n + sections) (ap (λ x. 4 * n + x) (length-replicate sections n)) m.room p)
       (rw k at l)
+
+-- one value in each of m places from k on, as `fill` leaves it
+pub fill_put : (d y : List ℕ) (k m v : ℕ) → k + m ≤ length d → y ≡ replicate (length (take (k + m - k) (drop k d))) v → Put d (take k d ++ (y ++ drop (k + m - k) (drop k d))) k (replicate m v)
+fill_put d y k m v h e =
+    let z : k + m - k ≡ m = omega arith in
+    let n : length (take m (drop k d)) ≡ m = length-take-le m (drop k d) (omega (arith, length-drop k d)) in
+    let q : y ≡ replicate m v = rw (z, n) at e in
+    rw (z, q, drop-drop, append_assoc, head_length d (replicate m v) k (omega arith), length-replicate)

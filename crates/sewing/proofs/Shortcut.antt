@@ -1,11 +1,12 @@
 -- Squared lengths that decide with no root: a longer step has no fewer cuts. Assumes nothing.
 use Prim.Native.Nat.{◌≤◌, ◌^◌}
 use native.Mathlib.Omega.{arith}
-use mathlib.Core.Path.{◌≡◌, refl, ap}
-use mathlib.Core.Bool.{true}
+use mathlib.Core.Path.{◌≡◌, ap, subst}
+use Rattle.std.specs.Prelude.{Some}
+use Rattle.std.specs.Option.{ForSome}
 use mathlib.Core.Logic.{inl, inr}
 use lib.Dec.{T, lit≤, lit<}
-use lib.Ieee.{Float, nan, inf, fin, binary64, fits, round, le, lt, eq, mul, div, to_unsigned, is_nan}
+use lib.Ieee.{Float, binary64, fits, round, le, lt, mul, div, to_unsigned, is_nan}
 use Rattle.numbers.specs.Num.{◌⊗◌, ◌⊘◌, literal, zero64}
 use Rattle.numbers.specs.Order.{finite}
 use Rattle.numbers.specs.Root.{root}
@@ -14,15 +15,11 @@ use Rattle.numbers.specs.Whole.{whole_of, ceil}
 use Rattle.numbers.specs.Laws as laws
 use Rattle.numbers.proofs.Laws as laws_proved
 use Rattle.numbers.specs.Laws.{holds}
-use Rattle.seqs.specs.Tests.{clash}
 use Rattle.sewing.specs.Sewing.{cuts_at, cuts_for, OwnRoot, Decides}
 
--- nothing is at most a NaN
-pub never : {X : Type 0} (d : Float) → le d nan ≡ true → X
-unfolding le lt eq
-never nan h = clash h refl
-never (inf s) h = clash h refl
-never (fin s m e) h = clash h refl
+-- what holds of a holds of what stands in Some a
+pub for_some : {A : Type 0} (P : A → Type 0) (a : A) → P a → ForSome (Some a) P
+for_some P a h x e = let q : a ≡ x = cc in subst P q h
 
 -- ---- a number from small to large is its square's root
 unfoldable pub small : Float

@@ -1,14 +1,14 @@
 -- Signed numbers by their sign: how many lie between two, remainders, and sums that fit. Assumes nothing.
 use mathlib.Core.Path.{◌≡◌, refl, sym, ap, ◌∙◌}
 use mathlib.Core.Bool.{Bool, true, false}
-use Prim.Native.Nat.{ℕ, zero, suc, ◌+◌, ◌-◌, ◌*◌, ◌/◌, ◌%◌, ◌^◌, ◌<◌, ◌≤◌}
+use Prim.Native.Nat.{ℕ, zero, suc, ◌+◌, ◌-◌, ◌*◌, ◌/◌, ◌%◌, ◌^◌, ◌<◌, ◌≤◌, min}
 use native.Mathlib.Nat.{mod-lt, mod-eq_of_lt, add-mod, add-mul-mod_self_left, mod-add-div}
 use native.Mathlib.Omega.{arith}
 use lib.Ieee.{Float, to_signed}
 use lib.Ieee.Casts.{to_signed_in}
-use lib.Dec.{T, leb, ltb, leb-zero}
-use lib.IntN.{ℤ, pos, negsuc, ◌+ℤ◌, ◌-ℤ◌, nat_abs, +ℤ_one, +ℤ_idl, +ℤ_idr}
-use lib.Signed.{mag, le_z, lt_z, non_neg}
+use lib.Dec.{leb, ltb}
+use lib.IntN.{ℤ, pos, negsuc, ◌+ℤ◌, ◌-ℤ◌, nat_abs, +ℤ_idr}
+use lib.Signed.{lt_z}
 use borrow.Author.Tests.{leb-true, ltb-true, ltb-false, le-leb, lt-leb, le-ltb}
 use mir.Syntax.{w64}
 use mir.Val.{SFits, to_z, of_z}
@@ -17,6 +17,7 @@ use mathlib.Core.Logic.{inl, inr}
 use Rattle.seqs.specs.Tests.{clash, either}
 use Rattle.seqs.specs.Slices.{capped}
 use Rattle.seqs.specs.Capped.{capped_in, capped_cases}
+use Rattle.std.specs.Int.{int_rem_euclid}
 use Rattle.rules.specs.Fill.{how_many, rem_euclid}
 use Rattle.rules.proofs.Stitches.{rem_below}
 use Rattle.sewing.specs.declared.row.Row.{Row}
@@ -34,38 +35,17 @@ cast n h = read (pos n) (record { sfits = h })
 pub first_fits : (w : Row) → 0 < w.n → Near w → SFits w64 w.m0
 first_fits w h f = rw (+ℤ_idr w.m0) at (f 0 h)
 
--- ---- size
-
-pub size_up : (k : ℤ) → le_z (pos 0) k ≡ true → T (non_neg k) × (nat_abs k ≡ mag k)
-size_up (pos a) h = (tt, refl)
-size_up (negsuc a) h = clash h refl
-
-pub up_fits : (k : ℤ) → SFits w64 k → le_z (pos 0) k ≡ false → SFits w64 (k +ℤ pos 1)
-up_fits (pos a) f h = clash (leb-zero a) h
-up_fits (negsuc zero) f h = record { sfits = omega arith }
-up_fits (negsuc (suc a)) f h = rw (+ℤ_one (negsuc (suc a))) (record { sfits = omega (arith, f.sfits) })
-
-pub size_down : (k : ℤ) → le_z (pos 0) k ≡ false → pos 0 -ℤ (k +ℤ pos 1) ≡ pos (mag k)
-size_down (pos a) h = clash (leb-zero a) h
-size_down (negsuc zero) h = refl
-size_down (negsuc (suc a)) h = rw (+ℤ_one (negsuc (suc a))) (+ℤ_idl (pos (suc a)))
-
 -- ---- remainders
 
-pub rem_up : (k : ℤ) (n : ℕ) → le_z (pos 0) k ≡ true → mag k % n ≡ rem_euclid k n
+pub rem_is : (k : ℤ) (n : ℕ) → int_rem_euclid k (pos n) ≡ pos (rem_euclid k n)
 unfolding rem_euclid
-rem_up (pos a) n h = refl
-rem_up (negsuc a) n h = clash h refl
-
-pub rem_down : (k : ℤ) (n : ℕ) → le_z (pos 0) k ≡ false → n - 1 - mag k % n ≡ rem_euclid k n
-unfolding rem_euclid
-rem_down (pos a) n h = clash (leb-zero a) h
-rem_down (negsuc a) n h = refl
+rem_is (pos a) n = refl
+rem_is (negsuc a) n = refl
 
 -- ---- how many from lo to hi
 
-capped_to : (n : ℕ) → n ≤ most + 1 → n ≡ capped most n
-capped_to n h = elim (capped_cases most n) [ inl c ↦ sym c.1 | inr c ↦ omega (arith, c.0, c.1) ]
+pub capped_min : (n : ℕ) → min (min n 18446744073709551615) 9223372036854775808 ≡ capped most n
+capped_min n = elim (capped_cases most n) [ inl c ↦ omega (arith, c.0, c.1) | inr c ↦ omega (arith, c.0, c.1) ]
 
 nat_abs_less : (a b : ℕ) → a ≤ b → nat_abs (pos b -ℤ pos a) ≡ b - a
 nat_abs_less zero b h = omega arith
@@ -81,27 +61,12 @@ reach_none (pos a) (negsuc b) h = sym (capped_in most 0 (omega arith))
 reach_none (negsuc a) (pos b) h = clash h refl
 reach_none (negsuc a) (negsuc b) h = rw (lt-leb b a (ltb-true a b h)) (sym (capped_in most 0 (omega arith)))
 
-pub reach_up : (lo hi : ℤ) → SFits w64 hi → lt_z hi lo ≡ false → le_z (pos 0) lo ≡ true → (mag lo ≤ mag hi) × (mag hi - mag lo + 1 ≡ capped most (how_many lo hi))
+pub reach_some : (lo hi : ℤ) → lt_z hi lo ≡ false → how_many lo hi ≡ nat_abs (hi -ℤ lo) + 1
 unfolding how_many
-reach_up (pos a) (pos b) f h k =
-    let l = ltb-false b a h in
-    (l, rw (le-leb a b l, nat_abs_less a b l) (capped_to (b - a + 1) (omega (arith, f.sfits))))
-reach_up (pos a) (negsuc b) f h k = clash refl h
-reach_up (negsuc a) hi f h k = clash k refl
-
-pub reach_down : (lo hi : ℤ) → SFits w64 lo → lt_z hi lo ≡ false → lt_z hi (pos 0) ≡ true → (mag hi ≤ mag lo) × (mag lo - mag hi + 1 ≡ capped most (how_many lo hi))
-unfolding how_many
-reach_down lo (pos b) f h k = clash k (le-ltb b 0 (omega arith))
-reach_down (pos a) (negsuc b) f h k = clash refl h
-reach_down (negsuc a) (negsuc b) f h k =
-    let l = ltb-false a b h in
-    (l, rw (le-leb b a l, nat_abs_more a b l) (capped_to (a - b + 1) (omega (arith, f.sfits))))
-
-pub reach_over : (lo hi : ℤ) → le_z (pos 0) lo ≡ false → lt_z hi (pos 0) ≡ false → how_many lo hi ≡ mag lo + mag hi + 2
-unfolding how_many
-reach_over (pos a) hi h k = clash (leb-zero a) h
-reach_over (negsuc a) (negsuc b) h k = clash refl k
-reach_over (negsuc a) (pos b) h k = omega arith
+reach_some (pos a) (pos b) h = rw (le-leb a b (ltb-false b a h))
+reach_some (pos a) (negsuc b) h = clash refl h
+reach_some (negsuc a) (pos b) h = refl
+reach_some (negsuc a) (negsuc b) h = rw (le-leb b a (ltb-false a b h))
 
 -- the numbers from lo to hi lie between them
 pub reach_near : (lo hi : ℤ) → SFits w64 lo → SFits w64 hi → (i : ℕ) → i < capped most (how_many lo hi) → SFits w64 (lo +ℤ pos i)

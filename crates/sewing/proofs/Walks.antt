@@ -22,13 +22,13 @@ use Rattle.rules.specs.declared.Settings.{Settings}
 use Rattle.rules.specs.declared.Entry.{Entry}
 use Rattle.geom.specs.Sewing.{flat}
 use Rattle.geom.specs.SewingLaws.{flat_length, flat_append}
-use Rattle.rules.specs.Fill.{cycle, rem_euclid, offset, needles, row_points, section, sewn}
+use Rattle.rules.specs.Fill.{rem_euclid, offset, needles, row_points, section, sewn}
 use Rattle.rules.specs.Calls.{sewn_ends}
 use Rattle.rules.proofs.Stitches.{rem_below}
 use Rattle.sewing.specs.declared.Field.{Field}
 use Rattle.sewing.specs.declared.row.Row.{Row}
-use Rattle.sewing.specs.declared.piece.Thread.{Thread}
-use Rattle.sewing.specs.Sewing.{row_number, most, entry_at, entries_in, numbers_in, first_sections, first_of, next_of, Linked, start_of, end_of, row_by, row_of, targets, phase_of, Ready, sew_to, back, sewn_from}
+use Rattle.sewing.specs.declared.thread.Thread.{Thread}
+use Rattle.sewing.specs.Sewing.{row_number, most, entry_at, entries_in, numbers_in, first_sections, first_of, next_of, Linked, start_of, end_of, row_by, row_of, targets, phase_of, sew_to, back, sewn_from}
 use Rattle.sewing.specs.RowLaws.{targets_length, row_points_lem, row_length, needles_length}
 use Rattle.sewing.specs.SewLaws.{sew_least, back_length, sewn_none, sewn_next, sewn_start, sewn_empty}
 use Rattle.sewing.specs.LinkLaws.{first_section, next_section, first_on, first_high, next_low, next_high, next_on}
@@ -37,18 +37,15 @@ use Rattle.sewing.proofs.Signs.{phase_is}
 
 -- ---- a row's stagger
 
-module _ (f : Field) (t : Thread) (r : Ready f t) where
-  cycle_some : 0 < cycle f.stagger
-  cycle_some = rw r.count at r.some
-
+module _ (t : Thread) where
   pub start_below : t.start < t.cycle
-  start_below = rw (r.start, r.count) (rem_below f.row (cycle f.stagger) cycle_some)
+  start_below = rw t.start_is (rem_below t.field.row t.cycle t.some)
 
-  pub offset_is : (row p : ℕ) → p ≡ phase_of t.start row t.cycle f.down → real (pos p) ⊗ f.g.len ⊘ real (pos t.cycle) ≡ offset f.g f.stagger (row_number f.row f.down row)
+  pub offset_is : (row p : ℕ) → p ≡ phase_of t.start row t.cycle t.field.down → real (pos p) ⊗ t.field.g.len ⊘ real (pos t.cycle) ≡ offset t.field.g t.field.stagger (row_number t.field.row t.field.down row)
   unfolding offset
   offset_is row p e =
-      let q : p ≡ rem_euclid (row_number f.row f.down row) (cycle f.stagger) = e ∙ rw (r.start, r.count) (phase_is f.row f.down row (cycle f.stagger) cycle_some) in
-      rw (q, r.count)
+      let q : p ≡ rem_euclid (row_number t.field.row t.field.down row) t.cycle = e ∙ rw t.start_is (phase_is t.field.row t.field.down row t.cycle t.some) in
+      rw (q, ← t.cycle_is)
 
 -- ---- a row of more needle points than any output has room for
 

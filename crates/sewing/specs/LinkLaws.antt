@@ -9,10 +9,9 @@ use Rattle.std.proofs.Math.ListN.{drop, get_or, length-drop}
 use Rattle.std.proofs.Math.Seq.{drop-nil}
 use borrow.Author.Tests.{eqb-true, eq-eqb}
 use Rattle.seqs.specs.Tests.{either}
-use Rattle.seqs.specs.Front.{next}
 use Rattle.rules.specs.declared.Entry.{Entry}
 use Rattle.rules.specs.Fill.{section}
-use Rattle.sewing.specs.Sewing.{seek, first_of, next_of, walk}
+use Rattle.sewing.specs.Sewing.{seek, first_of, next_of}
 
 pub map_drop : {A B : Type 0} (f : A → B) (j : ℕ) (l : List A) → drop j (map f l) ≡ map f (drop j l)
 map_drop f zero l = refl

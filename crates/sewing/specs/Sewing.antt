@@ -14,11 +14,10 @@ use Rattle.geom.specs.declared.point.P.{P}
 use Rattle.geom.specs.Point.{point, rotate, lerp}
 use Rattle.rules.specs.declared.Settings.{Settings}
 use Rattle.rules.specs.declared.Entry.{Entry}
-use Rattle.rules.specs.Fill.{how_many, cycle, rem_euclid, offset, section, row_points, sew_from}
+use Rattle.rules.specs.Fill.{how_many, offset, section, row_points, sew_from}
 use Rattle.sewing.specs.declared.Field.{Field}
 use Rattle.sewing.specs.declared.row.Row.{Row}
 use Rattle.sewing.specs.declared.stitch.Limits.{Limits}
-use Rattle.sewing.specs.declared.piece.Thread.{Thread}
 
 -- ---- the row list in the working slices
 
@@ -181,15 +180,6 @@ pub record Decides (len : Float) (m : Limits) : Type 0 where
   pub none : (d : Float) → T (fits binary64 d) → le d m.one ≡ true → cuts_for len d ≡ 0
   pub once : (d : Float) → T (fits binary64 d) → le m.from d ≡ true → le d m.two ≡ true → cuts_for len d ≡ 1
 
--- what all rows of a fill share, worked out once
-pub record Ready (f : Field) (t : Thread) : Type 0 where
-  pub margin : t.margin ≡ min_end f.g.len
-  pub count : t.cycle ≡ cycle f.stagger
-  pub some : 0 < t.cycle
-  pub small : t.cycle ≤ 2 ^ 32
-  pub start : t.start ≡ rem_euclid f.row (cycle f.stagger)
-  pub limits : Decides f.g.len t.limits
-
 -- these points, n of them
 unfoldable pub way : P → P → ℕ → List P
 way p q n = map (λ i. lerp p q (real (pos i) ⊘ real (pos (n + 1)))) (upto 1 n)
@@ -210,3 +200,7 @@ back c s ps = map (λ p. rotate p c s) ps
 -- the rows of these entries, sewn from where the pen is, turned back
 unfoldable pub sewn_from : Settings → ℕ → P → List Entry → List P
 sewn_from g stagger pen es = back g.cosine g.sine (sew_from g pen (each (row_points g stagger) es))
+
+-- a row, sewn from the pen and turned back
+abbrev pub row_sewn : Settings → P → Row → List P
+row_sewn g pen w = back g.cosine g.sine (sew_to g.len pen (targets g.len w 0 (w.n + 2)))

@@ -10,11 +10,12 @@ mod piece;
 mod row;
 mod section;
 mod stitch;
+mod thread;
 
 pub use links::link;
-pub use piece::{Thread, ready};
 use rules::Settings;
 pub use section::{count, write};
+pub use thread::{Thread, ready};
 
 // What is sewn: the settings and the stagger, the number of the first row met, whether rows are met last first, and how many pieces there are.
 #[derive(Clone, Copy)]

@@ -1,13 +1,14 @@
 // A row's targets, by index.
-ghost use Rattle.std.specs.Prelude.{◌≡◌, ◌+◌, ◌<◌, ◌^◌, pos, ◌+ℤ◌};
-ghost use Rattle.std.specs.Int.Signed.{mag};
+ghost use Rattle.std.specs.Prelude.{◌≡◌, ◌+◌, ◌<◌, ◌≤◌, ◌^◌, pos, ◌+ℤ◌};
 ghost use Rattle.std.specs.Int.{w64};
 ghost use Rattle.std.proofs.Common.{SFits};
 ghost use Rattle.numbers.specs.Num.{◌⊕◌, ◌⊗◌, real};
 ghost use Rattle.seqs.specs.Slices.{capped};
+ghost use Rattle.geom.specs.Point.{point};
 ghost use Rattle.rules.specs.Fill.{rem_euclid, how_many};
 ghost use Rattle.sewing.specs.Sewing.{most, row_by, Near, target};
 
+use geom::P;
 use leaves::{ceil, floor, of_i64, to_i64};
 
 // `first`, then n needle points off + m * len from m0 on, left to right or back, then `last`.
@@ -22,48 +23,22 @@ pub struct Row {
     pub forward: bool,
 }
 
-// k, or where it is negative -(k + 1).
-fn size(k: i64) -> u64
-    ensures { result ≡ mag k }
-{
-    if k >= 0 {
-        return k as u64;
-    }
-    (-(k + 1)) as u64
-}
-
 // The never-negative remainder of a row number.
 pub fn remainder(k: i64, cycle: u64) -> u64
-    requires { 0 < cycle }
+    requires { (0 < cycle) × (cycle ≤ 2 ^ 32) }
     ensures { result ≡ rem_euclid k cycle }
 {
-    let m = size(k) % cycle;
-    if k >= 0 {
-        return m;
-    }
-    cycle - 1 - m
+    k.rem_euclid(cycle as i64) as u64
 }
 
 // How many whole numbers from lo to hi.
 fn reach(lo: i64, hi: i64) -> u64
     ensures { result ≡ capped most (how_many lo hi) }
 {
-    let a = size(lo);
-    let b = size(hi);
     if hi < lo {
         return 0;
     }
-    if lo >= 0 {
-        return b - a + 1;
-    }
-    if hi < 0 {
-        return a - b + 1;
-    }
-    let d = a + b;
-    if d < 9223372036854775806 {
-        return d + 2;
-    }
-    9223372036854775808
+    hi.abs_diff(lo).saturating_add(1).min(1 << 63)
 }
 
 // The row of a piece whose stagger is `off`.
@@ -73,25 +48,15 @@ pub fn row_of(len: f64, margin: f64, off: f64, y: f64, xa: f64, xb: f64, forward
     let m0 = to_i64(ceil((xa + margin - off) / len));
     let m1 = to_i64(floor((xb - margin - off) / len));
     let n = reach(m0, m1);
-    if forward {
-        return Row {
-            y: y,
-            first: xa,
-            last: xb,
-            off: off,
-            m0: m0,
-            n: n,
-            forward: true,
-        };
-    }
+    let (first, last) = if forward { (xa, xb) } else { (xb, xa) };
     Row {
-        y: y,
-        first: xb,
-        last: xa,
-        off: off,
-        m0: m0,
-        n: n,
-        forward: false,
+        y,
+        first,
+        last,
+        off,
+        m0,
+        n,
+        forward,
     }
 }
 
@@ -104,18 +69,17 @@ fn needle_at(m0: i64, i: u64, off: f64, len: f64) -> f64
 }
 
 // Target r of n + 2, in the order sewn.
-pub fn target_at(w: Row, len: f64, r: u64) -> f64
+pub fn target_at(w: Row, len: f64, r: u64) -> P
     requires { Near w × (w.n < 2 ^ 63) }
-    ensures { result ≡ target len w r }
+    ensures { result ≡ point (target len w r) w.y }
 {
-    if r == 0 {
-        return w.first;
-    }
-    if r > w.n {
-        return w.last;
-    }
-    if w.forward {
-        return needle_at(w.m0, r - 1, w.off, len);
-    }
-    needle_at(w.m0, w.n - r, w.off, len)
+    let x = if r == 0 {
+        w.first
+    } else if r > w.n {
+        w.last
+    } else {
+        let i = if w.forward { r - 1 } else { w.n - r };
+        needle_at(w.m0, i, w.off, len)
+    };
+    P { x, y: w.y }
 }

@@ -5,37 +5,27 @@ ghost use Rattle.seqs.specs.Slices.{capped, Put};
 ghost use Rattle.geom.specs.Sewing.{flat};
 ghost use Rattle.rules.specs.Fill.{section, sewn};
 ghost use Rattle.rules.specs.Calls.{sewn_points, sewn_ends};
-ghost use Rattle.sewing.specs.Sewing.{entries_in, first_sections, Linked, Ready};
+ghost use Rattle.sewing.specs.Sewing.{entries_in, first_sections, Linked};
 
-use crate::Field;
-use crate::piece::{Thread, row_at, start_at};
+use crate::piece::{row_at, start_at};
 use crate::stitch::{count_row, put_row};
+use crate::thread::Thread;
 use geom::P;
 
 // How many points section s has, after c0 others; cap + 1 where they pass the cap.
-fn count_section(
-    floats: &[f64],
-    wholes: &[usize],
-    f: Field,
-    t: Thread,
-    s: usize,
-    c0: u64,
-    cap: u64,
-) -> u64
-    requires { Linked f (s + 1) floats.now wholes.now × Ready f t × (c0 ≤ cap) × (cap < 2 ^ 63) }
-    ensures { result ≡ capped cap (c0 + length (sewn f.g f.stagger (section (entries_in f floats.now wholes.now) s))) }
+fn count_section(floats: &[f64], wholes: &[usize], t: &Thread, s: usize, c0: u64, cap: u64) -> u64
+    requires { Linked t.now.field (s + 1) floats.now wholes.now × (c0 ≤ cap) × (cap < 2 ^ 63) }
+    ensures { result ≡ capped cap (c0 + length (sewn t.now.field.g t.now.field.stagger (section (entries_in t.now.field floats.now wholes.now) s))) }
 {
-    let n = f.pieces;
-    let g = f.g;
-    let len = g.len;
-    let m = t.limits;
+    let n = t.field.pieces;
     let mut j = wholes[4 * n + s];
-    let mut pen = start_at(floats, wholes, f, j);
+    let mut pen = start_at(floats, wholes, t.field, j);
     let mut c = c0;
+    // kept (3): no plainer: j goes along the links, not up by one
     while j < n {
         let to = wholes[3 * n + j];
-        let w = row_at(floats, wholes, f, t, j);
-        c = count_row(len, m, w, pen, c, cap);
+        let w = row_at(floats, wholes, t, j);
+        c = count_row(t, w, pen, c, cap);
         if c > cap {
             return cap + 1;
         }
@@ -51,23 +41,21 @@ fn put_section(
     k: usize,
     floats: &[f64],
     wholes: &[usize],
-    f: Field,
-    t: Thread,
+    t: &Thread,
     s: usize,
 ) -> usize
-    requires { Linked f (s + 1) floats.now wholes.now × Ready f t × (k + length (flat (sewn f.g f.stagger (section (entries_in f floats.now wholes.now) s))) ≤ length out.old) }
-    ensures { Put out.old out.new k (flat (sewn f.g f.stagger (section (entries_in f floats.now wholes.now) s))) × (result ≡ k + length (flat (sewn f.g f.stagger (section (entries_in f floats.now wholes.now) s)))) }
+    requires { Linked t.now.field (s + 1) floats.now wholes.now × (k + length (flat (sewn t.now.field.g t.now.field.stagger (section (entries_in t.now.field floats.now wholes.now) s))) ≤ length out.old) }
+    ensures { Put out.old out.new k (flat (sewn t.now.field.g t.now.field.stagger (section (entries_in t.now.field floats.now wholes.now) s))) × (result ≡ k + length (flat (sewn t.now.field.g t.now.field.stagger (section (entries_in t.now.field floats.now wholes.now) s)))) }
 {
-    let n = f.pieces;
-    let g = f.g;
-    let m = t.limits;
+    let n = t.field.pieces;
     let mut j = wholes[4 * n + s];
-    let mut pen = start_at(floats, wholes, f, j);
+    let mut pen = start_at(floats, wholes, t.field, j);
     let mut at = k;
+    // kept (3): no plainer: j goes along the links, not up by one
     while j < n {
         let to = wholes[3 * n + j];
-        let w = row_at(floats, wholes, f, t, j);
-        at = put_row(out, at, g.len, m, w, pen, g.cosine, g.sine);
+        let w = row_at(floats, wholes, t, j);
+        at = put_row(out, at, t, w, pen);
         pen = P { x: w.last, y: w.y };
         j = to;
     }
@@ -75,25 +63,16 @@ fn put_section(
 }
 
 // How many points the first sections have; cap + 1 where they pass the cap.
-pub fn count(
-    floats: &[f64],
-    wholes: &[usize],
-    f: Field,
-    t: Thread,
-    sections: usize,
-    cap: u64,
-) -> u64
-    requires { Linked f sections floats.now wholes.now × Ready f t × (cap < 2 ^ 63) }
-    ensures { result ≡ capped cap (length (each (λ s. s) (map (sewn f.g f.stagger) (first_sections (entries_in f floats.now wholes.now) sections)))) }
+pub fn count(floats: &[f64], wholes: &[usize], t: &Thread, sections: usize, cap: u64) -> u64
+    requires { Linked t.now.field sections floats.now wholes.now × (cap < 2 ^ 63) }
+    ensures { result ≡ capped cap (length (each (λ s. s) (map (sewn t.now.field.g t.now.field.stagger) (first_sections (entries_in t.now.field floats.now wholes.now) sections)))) }
 {
     let mut c: u64 = 0;
-    let mut s = 0;
-    while s < sections {
-        c = count_section(floats, wholes, f, t, s, c, cap);
+    for s in 0..sections {
+        c = count_section(floats, wholes, t, s, c, cap);
         if c > cap {
             return cap + 1;
         }
-        s += 1;
     }
     c
 }
@@ -104,18 +83,15 @@ pub fn write(
     ends: &mut [usize],
     floats: &[f64],
     wholes: &[usize],
-    f: Field,
-    t: Thread,
+    t: &Thread,
     sections: usize,
 )
-    requires { Linked f sections floats.now wholes.now × Ready f t × (length (flat (sewn_points (map (sewn f.g f.stagger) (first_sections (entries_in f floats.now wholes.now) sections)))) ≤ length out.old) × (sections ≤ length ends.old) }
-    ensures { (out.new ≡ flat (sewn_points (map (sewn f.g f.stagger) (first_sections (entries_in f floats.now wholes.now) sections))) ++ drop (length (flat (sewn_points (map (sewn f.g f.stagger) (first_sections (entries_in f floats.now wholes.now) sections))))) out.old) × (ends.new ≡ sewn_ends 0 (map (sewn f.g f.stagger) (first_sections (entries_in f floats.now wholes.now) sections)) ++ drop (length (sewn_ends 0 (map (sewn f.g f.stagger) (first_sections (entries_in f floats.now wholes.now) sections)))) ends.old) }
+    requires { Linked t.now.field sections floats.now wholes.now × (length (flat (sewn_points (map (sewn t.now.field.g t.now.field.stagger) (first_sections (entries_in t.now.field floats.now wholes.now) sections)))) ≤ length out.old) × (sections ≤ length ends.old) }
+    ensures { (out.new ≡ flat (sewn_points (map (sewn t.now.field.g t.now.field.stagger) (first_sections (entries_in t.now.field floats.now wholes.now) sections))) ++ drop (length (flat (sewn_points (map (sewn t.now.field.g t.now.field.stagger) (first_sections (entries_in t.now.field floats.now wholes.now) sections))))) out.old) × (ends.new ≡ sewn_ends 0 (map (sewn t.now.field.g t.now.field.stagger) (first_sections (entries_in t.now.field floats.now wholes.now) sections)) ++ drop (length (sewn_ends 0 (map (sewn t.now.field.g t.now.field.stagger) (first_sections (entries_in t.now.field floats.now wholes.now) sections)))) ends.old) }
 {
     let mut at = 0;
-    let mut s = 0;
-    while s < sections {
-        at = put_section(out, at, floats, wholes, f, t, s);
+    for s in 0..sections {
+        at = put_section(out, at, floats, wholes, t, s);
         ends[s] = at / 2;
-        s += 1;
     }
 }

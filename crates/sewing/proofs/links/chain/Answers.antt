@@ -1,10 +1,10 @@
 -- From the last piece back. Assumes nothing.
 use mathlib.Core.Path.{◌≡◌, refl}
 use mathlib.Core.List.{List}
-use Prim.Native.Nat.{ℕ, ◌+◌, ◌-◌, ◌≤◌, ◌<◌}
+use Prim.Native.Nat.{ℕ, ◌+◌, ◌-◌, ◌<◌}
 use native.Mathlib.Omega.{arith}
 use lib.ListN.{length-set}
-use Rattle.sewing.specs.Sewing.{numbers_in, Linking}
+use Rattle.sewing.specs.Sewing.{Linking}
 use Rattle.sewing.proofs.Chains.{chain_start, mark_is, mark_below, chain_next}
 use borrow.Author.Rules.{rules}
 use Rattle.sewing.proofs.links.chain.Goals as goal

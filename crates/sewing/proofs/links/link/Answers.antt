@@ -1,13 +1,14 @@
 -- The firsts cleared, then the pieces linked. Assumes nothing.
-use Rattle.sewing.proofs.Chains.{cleared, link_end}
-use borrow.Author.Rules.{rules}
+use Rattle.std.proofs.Common.{rules, ◌*◌}
+use Rattle.sewing.proofs.Chains.{cleared, link_end, fill_put}
 use Rattle.sewing.proofs.links.link.Goals as goal
 
-pub clear-requires : goal.clear-requires
-clear-requires c = c.requires.room
-
 pub chain-requires : goal.chain-requires
-chain-requires c = cleared c.args.n c.args.sections c.args.wholes.now _ c.requires c.clear.ensures
+chain-requires c =
+    let a = c.args in
+    cleared a.n a.sections a.wholes.now _ c.requires (fill_put a.wholes.now _ (4 * a.n) a.sections a.n c.requires.room (c.fill.ensures.after (λ y h. search rules)))
 
 pub returns : goal.returns
-returns c = link_end c.args.n c.args.sections c.args.wholes.now _ c.requires c.clear.ensures _ c.chain.ensures
+returns c =
+    let a = c.args in
+    link_end a.n a.sections a.wholes.now _ c.requires (fill_put a.wholes.now _ (4 * a.n) a.sections a.n c.requires.room (c.fill.ensures.after (λ y h. search rules))) _ c.chain.ensures

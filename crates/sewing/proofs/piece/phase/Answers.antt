@@ -1,29 +1,20 @@
 -- A row's place in the cycle. Assumes nothing.
+use Rattle.std.proofs.Common.{arith}
 use native.Mathlib.Nat.{mod-lt}
-use native.Mathlib.Omega.{arith}
 use Rattle.sewing.specs.Sewing.{phase_of}
-use borrow.Author.Rules.{rules}
+use Rattle.sewing.proofs.Walks.{start_below}
 use Rattle.sewing.proofs.piece.phase.Goals as goal
 
-pub overflow_sub-n : goal.overflow_sub-n
-overflow_sub-n c = omega (arith, mod-lt c.args.r c.requires.0, c.requires)
+pub overflow_add-result : goal.overflow_add-result
+overflow_add-result c = omega (arith, start_below c.args.t.now, c.args.t.now.small)
 
-pub overflow_add-start : goal.overflow_add-start
-overflow_add-start c = omega (arith, mod-lt c.args.r c.requires.0, c.requires)
+pub overflow_add-result-else-t : goal.overflow_add-result-else-t
+overflow_add-result-else-t c = omega (arith, start_below c.args.t.now, mod-lt c.args.r c.args.t.now.some, c.args.t.now.small)
 
-pub wrap-requires : goal.wrap-requires
-wrap-requires c = omega (arith, mod-lt c.args.r c.requires.0, c.requires)
-
-pub returns-then-down : goal.returns-then-down
+pub returns-then-t : goal.returns-then-t
 unfolding phase_of
-returns-then-down c = rw c.if-down.true c.wrap.ensures
+returns-then-t c = rw c.if-t.true
 
-pub overflow_add-start-2 : goal.overflow_add-start-2
-overflow_add-start-2 c = omega (arith, mod-lt c.args.r c.requires.0, c.requires)
-
-pub wrap-requires-2 : goal.wrap-requires-2
-wrap-requires-2 c = omega (arith, mod-lt c.args.r c.requires.0, c.requires)
-
-pub returns : goal.returns
+pub returns-else-t : goal.returns-else-t
 unfolding phase_of
-returns c = rw c.if-down.false c.wrap-2.ensures
+returns-else-t c = rw c.if-t.false

@@ -2,7 +2,6 @@
 use native.Mathlib.Omega.{arith}
 use borrow.Author.Tests.{eq-eqb, ne_eqb}
 use Rattle.sewing.specs.Sewing.{entry_at}
-use borrow.Author.Rules.{rules}
 use Rattle.sewing.proofs.piece.start_at.Goals as goal
 
 pub returns-then-wholes-n-eq0 : goal.returns-then-wholes-n-eq0

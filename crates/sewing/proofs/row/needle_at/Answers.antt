@@ -1,7 +1,6 @@
 -- One needle point. Assumes nothing.
 use lib.IntN.{pos, ◌+ℤ◌}
 use Rattle.sewing.proofs.Signs.{read, cast}
-use borrow.Author.Rules.{rules}
 use Rattle.sewing.proofs.row.needle_at.Goals as goal
 
 pub overflow_add-m0 : goal.overflow_add-m0

@@ -1,21 +1,12 @@
--- The never-negative remainder, by the sign. Assumes nothing.
-use native.Mathlib.Omega.{arith}
-use native.Mathlib.Nat.{mod-lt}
-use Rattle.sewing.proofs.Signs.{read, rem_up, rem_down}
-use borrow.Author.Rules.{rules}
+-- The never-negative remainder. Assumes nothing.
+use Rattle.std.proofs.Common.{arith, pos, ◌∙◌}
+use Rattle.rules.specs.Fill.{rem_euclid}
+use Rattle.rules.proofs.Stitches.{rem_below}
+use Rattle.sewing.proofs.Signs.{read, cast, rem_is}
 use Rattle.sewing.proofs.row.remainder.Goals as goal
-
-pub returns-then-k-ge0 : goal.returns-then-k-ge0
-returns-then-k-ge0 c =
-    let z = read c.args.k c.ranges.k in
-    let e = rw z at c.size.ensures in
-    rw e (rem_up c.args.k c.args.cycle (rw z at c.if-k-ge0.true))
-
-pub overflow_sub-result-2 : goal.overflow_sub-result-2
-overflow_sub-result-2 c = omega (arith, mod-lt c.size.result c.requires)
 
 pub returns : goal.returns
 returns c =
-    let z = read c.args.k c.ranges.k in
-    let e = rw z at c.size.ensures in
-    rw e (rem_down c.args.k c.args.cycle (rw z at c.if-k-ge0.false))
+    let a = c.args in
+    let e = rw (read a.k c.ranges.k, cast a.cycle (omega arith)) at c.rem_euclid.ensures.value ∙ rem_is a.k a.cycle in
+    rw (e, read (pos (rem_euclid a.k a.cycle)) (record { sfits = omega (arith, rem_below a.k a.cycle c.requires.0) }))

@@ -3,7 +3,6 @@ use mir.Syntax.{w64}
 use mir.Val.{SFits}
 use Rattle.sewing.specs.Sewing.{row_by}
 use Rattle.sewing.proofs.Signs.{read, reach_near, signed_fits}
-use borrow.Author.Rules.{rules}
 use Rattle.sewing.proofs.row.row_of.Goals as goal
 
 pub returns-then-forward : goal.returns-then-forward
@@ -18,9 +17,9 @@ returns-then-forward c =
     let n = rw (ra, rb) at c.reach-n.ensures in
     rw ra (rw (n, a, b, c.if-forward.true), rw n (reach_near c.to_i64-m0.result c.to_i64-m1.result fa fb))
 
-pub returns : goal.returns
+pub returns-else-forward : goal.returns-else-forward
 unfolding row_by
-returns c =
+returns-else-forward c =
     let a = rw c.ceil.ensures at c.to_i64-m0.ensures in
     let b = rw c.floor.ensures at c.to_i64-m1.ensures in
     let fa : SFits w64 c.to_i64-m0.result = rw a (signed_fits _) in

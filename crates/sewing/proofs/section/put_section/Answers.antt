@@ -1,18 +1,17 @@
 -- A section, written. Assumes nothing.
-use mathlib.Core.Path.{◌≡◌, refl, sym, ap}
+use mathlib.Core.Path.{refl, sym, ap}
 use mathlib.Core.List.{◌++◌}
-use Prim.Native.Nat.{◌+◌, ◌-◌, ◌*◌, ◌^◌, ◌≤◌, ◌<◌}
+use Prim.Native.Nat.{◌+◌, ◌*◌, ◌≤◌}
 use native.Mathlib.Omega.{arith}
 use lib.ListN.{length, take, get_or}
-use Rattle.seqs.specs.Front.{Front, front_from, front_at, front_room_block, front_whole, front_count}
+use Rattle.seqs.specs.Front.{front_from, front_at, front_room_block, front_whole, front_count}
 use Rattle.seqs.specs.Wrote.{head_length, put_end}
 use Rattle.geom.specs.Point.{point}
 use Rattle.geom.specs.Sewing.{flat}
 use Rattle.geom.specs.SewingLaws.{flat_none}
 use Rattle.rules.specs.Fill.{sewn, section}
-use Rattle.sewing.specs.Sewing.{entries_in, numbers_in, sew_to, back, targets}
+use Rattle.sewing.specs.Sewing.{entries_in, sew_to, back, targets}
 use Rattle.sewing.proofs.Walks.{rest_sewn, rest_none, start_on, start_sewn, step_low, step_high, step_on, put_on}
-use borrow.Author.Rules.{rules}
 use Rattle.sewing.proofs.section.put_section.Goals as goal
 
 pub start_at-pen-requires : goal.start_at-pen-requires
@@ -21,11 +20,11 @@ start_at-pen-requires c = (c.requires.0.pieces, omega (arith, c.requires.0.numbe
 pub loop-j-init : goal.loop-j-init
 loop-j-init c =
     let a = c.args in
-    let o = start_on a.f a.floats.now a.wholes.now a.s c.requires.0 in
-    (o.0, (refl, omega arith), o.1, front_at (ap flat (sym (start_sewn a.f a.floats.now a.wholes.now a.s c.requires.0 c.start_at-pen.result c.start_at-pen.ensures))) (front_from _ _ a.k (omega (arith, c.requires.2))))
+    let o = start_on a.t.now.field a.floats.now a.wholes.now a.s c.requires.0 in
+    (o.0, (refl, omega arith), o.1, front_at (ap flat (sym (start_sewn a.t.now.field a.floats.now a.wholes.now a.s c.requires.0 c.start_at-pen.result c.start_at-pen.ensures))) (front_from _ _ a.k (omega (arith, c.requires.1))))
 
 pub row_at-w-requires : goal.row_at-w-requires
-row_at-w-requires c = (c.requires.1, c.loop-j-test.true, c.requires.0.pieces, omega (arith, c.requires.0.numbers))
+row_at-w-requires c = (c.loop-j-test.true, c.requires.0.pieces, omega (arith, c.requires.0.numbers))
 
 pub put_row-at-requires : goal.put_row-at-requires
 put_row-at-requires c =
@@ -33,18 +32,18 @@ put_row-at-requires c =
     let l = c.loop-j in
     let h = c.loop-j-test.true in
     let w = c.row_at-w.result in
-    let all = flat (sewn a.f.g a.f.stagger (section (entries_in a.f a.floats.now a.wholes.now) a.s)) in
-    let b : length (take a.k a.out.now ++ all) ≤ length a.out.now = omega (arith, head_length a.out.now all a.k (omega (arith, c.requires.2)), c.requires.2) in
-    let e = put_on a.f a.floats.now a.wholes.now a.s c.requires.0 l.j h (l.invariant.2 h) l.pen w c.row_at-w.ensures.0 (omega (arith, b, front_count l.invariant.3, l.invariant.1.1)) in
-    let m = flat (back a.f.g.cosine a.f.g.sine (sew_to a.f.g.len l.pen (targets a.f.g.len w 0 (w.n + 2)))) in
-    let rest = flat (rest_sewn a.f a.floats.now a.wholes.now a.s (point w.last w.y) (get_or a.wholes.now (3 * a.f.pieces + l.j) 0)) in
-    (c.requires.1.limits, c.row_at-w.ensures.1, front_room_block m rest (front_at e l.invariant.3) b)
+    let all = flat (sewn a.t.now.field.g a.t.now.field.stagger (section (entries_in a.t.now.field a.floats.now a.wholes.now) a.s)) in
+    let b : length (take a.k a.out.now ++ all) ≤ length a.out.now = omega (arith, head_length a.out.now all a.k (omega (arith, c.requires.1)), c.requires.1) in
+    let e = put_on a.t.now.field a.floats.now a.wholes.now a.s c.requires.0 l.j h (l.invariant.2 h) l.pen w c.row_at-w.ensures.0 (omega (arith, b, front_count l.invariant.3, l.invariant.1.1)) in
+    let m = flat (back a.t.now.field.g.cosine a.t.now.field.g.sine (sew_to a.t.now.field.g.len l.pen (targets a.t.now.field.g.len w 0 (w.n + 2)))) in
+    let rest = flat (rest_sewn a.t.now.field a.floats.now a.wholes.now a.s (point w.last w.y) (get_or a.wholes.now (3 * a.t.now.field.pieces + l.j) 0)) in
+    (c.row_at-w.ensures.1, front_room_block m rest (front_at e l.invariant.3) b)
 
 pub loop-j-smaller : goal.loop-j-smaller
 loop-j-smaller c =
     let a = c.args in
     let l = c.loop-j in
-    omega (arith, step_low a.f a.floats.now a.wholes.now a.s c.requires.0 l.j c.loop-j-test.true (l.invariant.2 c.loop-j-test.true), step_high a.f a.floats.now a.wholes.now a.s c.requires.0 l.j c.loop-j-test.true (l.invariant.2 c.loop-j-test.true))
+    omega (arith, step_low a.t.now.field a.floats.now a.wholes.now a.s c.requires.0 l.j c.loop-j-test.true (l.invariant.2 c.loop-j-test.true), step_high a.t.now.field a.floats.now a.wholes.now a.s c.requires.0 l.j c.loop-j-test.true (l.invariant.2 c.loop-j-test.true))
 
 pub loop-j-preserved : goal.loop-j-preserved
 loop-j-preserved c =
@@ -53,15 +52,15 @@ loop-j-preserved c =
     let h = c.loop-j-test.true in
     let q = l.invariant.2 h in
     let w = c.row_at-w.result in
-    let all = flat (sewn a.f.g a.f.stagger (section (entries_in a.f a.floats.now a.wholes.now) a.s)) in
-    let b : length (take a.k a.out.now ++ all) ≤ length a.out.now = omega (arith, head_length a.out.now all a.k (omega (arith, c.requires.2)), c.requires.2) in
-    let e = put_on a.f a.floats.now a.wholes.now a.s c.requires.0 l.j h q l.pen w c.row_at-w.ensures.0 (omega (arith, b, front_count l.invariant.3, l.invariant.1.1)) in
-    let m = flat (back a.f.g.cosine a.f.g.sine (sew_to a.f.g.len l.pen (targets a.f.g.len w 0 (w.n + 2)))) in
-    let rest = flat (rest_sewn a.f a.floats.now a.wholes.now a.s (point w.last w.y) (get_or a.wholes.now (3 * a.f.pieces + l.j) 0)) in
+    let all = flat (sewn a.t.now.field.g a.t.now.field.stagger (section (entries_in a.t.now.field a.floats.now a.wholes.now) a.s)) in
+    let b : length (take a.k a.out.now ++ all) ≤ length a.out.now = omega (arith, head_length a.out.now all a.k (omega (arith, c.requires.1)), c.requires.1) in
+    let e = put_on a.t.now.field a.floats.now a.wholes.now a.s c.requires.0 l.j h q l.pen w c.row_at-w.ensures.0 (omega (arith, b, front_count l.invariant.3, l.invariant.1.1)) in
+    let m = flat (back a.t.now.field.g.cosine a.t.now.field.g.sine (sew_to a.t.now.field.g.len l.pen (targets a.t.now.field.g.len w 0 (w.n + 2)))) in
+    let rest = flat (rest_sewn a.t.now.field a.floats.now a.wholes.now a.s (point w.last w.y) (get_or a.wholes.now (3 * a.t.now.field.pieces + l.j) 0)) in
     let d = front_at e l.invariant.3 in (
-      step_high a.f a.floats.now a.wholes.now a.s c.requires.0 l.j h q,
+      step_high a.t.now.field a.floats.now a.wholes.now a.s c.requires.0 l.j h q,
       (refl, l.invariant.1.1),
-      step_on a.f a.floats.now a.wholes.now a.s c.requires.0 l.j h q,
+      step_on a.t.now.field a.floats.now a.wholes.now a.s c.requires.0 l.j h q,
       rw c.put_row-at.ensures.1 (front_whole m rest _ d (front_room_block m rest d b) c.put_row-at.ensures.0),
     )
 
@@ -72,4 +71,4 @@ pub returns : goal.returns
 returns c =
     let a = c.args in
     let l = c.loop-j in
-    put_end (flat (sewn a.f.g a.f.stagger (section (entries_in a.f a.floats.now a.wholes.now) a.s))) a.k (omega (arith, c.requires.2)) (front_at (flat_none (rest_none a.f a.floats.now a.wholes.now a.s l.pen l.j c.loop-j-test.false)) l.invariant.3)
+    put_end (flat (sewn a.t.now.field.g a.t.now.field.stagger (section (entries_in a.t.now.field a.floats.now a.wholes.now) a.s))) a.k (omega (arith, c.requires.1)) (front_at (flat_none (rest_none a.t.now.field a.floats.now a.wholes.now a.s l.pen l.j c.loop-j-test.false)) l.invariant.3)

@@ -1,6 +1,5 @@
 -- The squared length of the step. Assumes nothing.
 use Rattle.sewing.specs.Sewing.{cuts}
-use borrow.Author.Rules.{rules}
 use Rattle.sewing.proofs.stitch.cuts_to.Goals as goal
 
 pub returns : goal.returns

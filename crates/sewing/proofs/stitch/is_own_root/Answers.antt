@@ -1,11 +1,10 @@
 -- Two tests, or nothing is said. Assumes nothing.
-use mathlib.Core.Path.{◌≡◌, refl, sym, subst}
+use mathlib.Core.Path.{◌≡◌, sym, subst}
 use mathlib.Core.Bool.{true}
 use lib.Dec.{T}
 use lib.Ieee.{le, of_bits, round}
 use Rattle.numbers.specs.Num.{literal}
 use Rattle.numbers.specs.Laws.{holds}
-use Rattle.seqs.specs.Tests.{clash}
 use Rattle.sewing.proofs.Shortcut.{small, large, own_root}
 use Rattle.sewing.proofs.stitch.is_own_root.Goals as goal
 
@@ -14,6 +13,3 @@ unfolding small large literal round of_bits
 returns-then-x c =
     let over : le small c.args.x ≡ true = c.if-x.true in
     λ e. own_root c.args.x (subst T (sym c.well_formed.0.1) tt) (holds over) (holds e)
-
-pub returns : goal.returns
-returns c = λ e. clash e refl
