@@ -1,31 +1,13 @@
 -- Document 01's answers of the geometry: the number and the value of each case, and each call's checks in the table's order. Definitions only.
 use Rattle.std.specs.Prelude.{ℕ, Bool, List, ℤ, Float}
-use Rattle.refusal.specs.Refusal.{DONE, LAYOUT, NUMBER, SETTING, TURN, Answer, done, refused, unless, answer, ◌then◌}
+use Rattle.refusal.specs.Refusal.{DONE, LAYOUT, NUMBER, SETTING, TURN, Answer, unless, answer, ◌then◌}
 use Rattle.geom.specs.declared.point.P.{P}
 use Rattle.outlines.specs.declared.rule.FillRule.{FillRule}
-use Rattle.geometry.specs.declared.checked.Spot.{Spot}
-use Rattle.geometry.specs.declared.checked.Spot.TheVariants as spot
-use Rattle.geometry.specs.declared.checked.Wound.{Wound}
-use Rattle.geometry.specs.declared.checked.Wound.TheVariants as wound
-use Rattle.geometry.specs.declared.checked.Truth.{Truth}
-use Rattle.geometry.specs.declared.checked.Truth.TheVariants as truth
 use Rattle.geom.specs.Point.{dot, len, dist, norm, perp, rotate, lerp, cross}
 use Rattle.geom.specs.Outline.{rings}
 use Rattle.outlines.specs.Winding.{winding}
 use Rattle.outlines.specs.Inside.{inside, point_inside, segment_inside}
 use Rattle.limits.specs.Limits.{good_number, good_point, good_numbers, good_turn, good_step, good_outline}
-
-abbrev pub said_spot : Spot → Answer P
-said_spot (spot.At p) = done p
-said_spot (spot.Refused n) = refused n
-
-abbrev pub said_wound : Wound → Answer ℤ
-said_wound (wound.Times w) = done w
-said_wound (wound.Refused n) = refused n
-
-abbrev pub said_truth : Truth → Answer Bool
-said_truth (truth.Is b) = done b
-said_truth (truth.Refused n) = refused n
 
 -- ---- the checks
 

@@ -1,4 +1,3 @@
--- What the contracts of `geometry` cite (Answers, LineAnswers), and that an answer has one meaning.
+-- What the contracts of `geometry` cite (Answers, LineAnswers).
 pub mod Answers
 pub mod LineAnswers
-pub mod AnswersLaws

@@ -1,8 +1,7 @@
 -- Document 01's answers of the calls along a line, each call's checks in the table's order. Definitions only.
 use Rattle.std.specs.Prelude.{ℕ, List, length, Float}
 use Rattle.refusal.specs.Refusal.{LAYOUT, NUMBER, SETTING, Answer, unless, answer, ◌then◌}
-use Rattle.refusal.specs.Sewn.{sewn, output}
-use Rattle.refusal.specs.declared.Sewn.{Sewn}
+use Rattle.refusal.specs.Sewn.{Sewn, sewn, output}
 use Rattle.geom.specs.Outline.{points}
 use Rattle.geom.specs.Sewing.{flat, fitted}
 use Rattle.limits.specs.Limits.{good_numbers, good_len, good_line}

@@ -1,160 +1,100 @@
 // Document 01's face of the geometry: the value, or the number of the first check that applies.
+#![tactic(auto, unfolding(crate::specs::Answers::dot_answer, crate::specs::Answers::len_answer, crate::specs::Answers::dist_answer, crate::specs::Answers::norm_answer, crate::specs::Answers::perp_answer, crate::specs::Answers::rotate_answer, crate::specs::Answers::lerp_answer, crate::specs::Answers::cross_answer, crate::specs::Answers::inside_answer, crate::specs::Answers::winding_answer, crate::specs::Answers::point_inside_answer, crate::specs::Answers::segment_inside_answer))]
+
 ghost use Rattle.std.specs.Prelude.{◌≡◌};
-ghost use Rattle.leaves.specs.Answer.{said};
-ghost use Rattle.geometry.specs.Answers.{said_spot, said_wound, said_truth, dot_answer, len_answer, dist_answer, norm_answer, perp_answer, rotate_answer, lerp_answer, cross_answer, inside_answer, winding_answer, point_inside_answer, segment_inside_answer};
+ghost use Rattle.refusal.specs.Refusal.{said};
+ghost use Rattle.geometry.specs.Answers.{dot_answer, len_answer, dist_answer, norm_answer, perp_answer, rotate_answer, lerp_answer, cross_answer, inside_answer, winding_answer, point_inside_answer, segment_inside_answer};
 
 use geom::P;
-use leaves::checked::Leaf;
-use limits::{good_number, good_numbers, good_outline, good_point, good_step, good_turn};
-use outlines::FillRule;
-use refusal::{LAYOUT, NUMBER, SETTING, TURN};
+use limits::{good_number, good_numbers, good_point, good_step, good_turn, outline};
+use outlines::{Area, FillRule};
+use refusal::{Refusal, unless};
 
-// A point.
-#[derive(Clone, Copy)]
-pub enum Spot {
-    At(P),
-    Refused(u64),
-}
-
-// A winding number.
-#[derive(Clone, Copy)]
-pub enum Wound {
-    Times(i64),
-    Refused(u64),
-}
-
-// A truth value.
-#[derive(Clone, Copy)]
-pub enum Truth {
-    Is(bool),
-    Refused(u64),
-}
-
-pub fn dot(a: P, o: P) -> Leaf
+pub fn dot(a: P, o: P) -> Result<f64, Refusal>
     ensures { said result ≡ dot_answer a o }
 {
-    if !good_point(a) {
-        return Leaf::Refused(NUMBER);
-    }
-    if !good_point(o) {
-        return Leaf::Refused(NUMBER);
-    }
-    Leaf::Value(a.dot(o))
+    unless(Refusal::Number, good_point(a))?;
+    unless(Refusal::Number, good_point(o))?;
+    Ok(a.dot(o))
 }
 
-pub fn len(a: P) -> Leaf
+pub fn len(a: P) -> Result<f64, Refusal>
     ensures { said result ≡ len_answer a }
 {
-    if !good_point(a) {
-        return Leaf::Refused(NUMBER);
-    }
-    Leaf::Value(a.len())
+    unless(Refusal::Number, good_point(a))?;
+    Ok(a.len())
 }
 
-pub fn dist(a: P, o: P) -> Leaf
+pub fn dist(a: P, o: P) -> Result<f64, Refusal>
     ensures { said result ≡ dist_answer a o }
 {
-    if !good_point(a) {
-        return Leaf::Refused(NUMBER);
-    }
-    if !good_point(o) {
-        return Leaf::Refused(NUMBER);
-    }
-    Leaf::Value(a.dist(o))
+    unless(Refusal::Number, good_point(a))?;
+    unless(Refusal::Number, good_point(o))?;
+    Ok(a.dist(o))
 }
 
-pub fn norm(a: P) -> Spot
-    ensures { said_spot result ≡ norm_answer a }
+pub fn norm(a: P) -> Result<P, Refusal>
+    ensures { said result ≡ norm_answer a }
 {
-    if !good_point(a) {
-        return Spot::Refused(NUMBER);
-    }
-    Spot::At(a.norm())
+    unless(Refusal::Number, good_point(a))?;
+    Ok(a.norm())
 }
 
-pub fn perp(a: P) -> Spot
-    ensures { said_spot result ≡ perp_answer a }
+pub fn perp(a: P) -> Result<P, Refusal>
+    ensures { said result ≡ perp_answer a }
 {
-    if !good_point(a) {
-        return Spot::Refused(NUMBER);
-    }
-    Spot::At(a.perp())
+    unless(Refusal::Number, good_point(a))?;
+    Ok(a.perp())
 }
 
-pub fn rotate(a: P, cos: f64, sin: f64) -> Spot
-    ensures { said_spot result ≡ rotate_answer a cos sin }
+pub fn rotate(a: P, cos: f64, sin: f64) -> Result<P, Refusal>
+    ensures { said result ≡ rotate_answer a cos sin }
 {
-    if !good_point(a) {
-        return Spot::Refused(NUMBER);
-    }
-    if !good_turn(cos, sin) {
-        return Spot::Refused(TURN);
-    }
-    Spot::At(a.rotate(cos, sin))
+    unless(Refusal::Number, good_point(a))?;
+    unless(Refusal::Turn, good_turn(cos, sin))?;
+    Ok(a.rotate(cos, sin))
 }
 
-pub fn lerp(a: P, o: P, t: f64) -> Spot
-    ensures { said_spot result ≡ lerp_answer a o t }
+pub fn lerp(a: P, o: P, t: f64) -> Result<P, Refusal>
+    ensures { said result ≡ lerp_answer a o t }
 {
-    if !good_point(a) {
-        return Spot::Refused(NUMBER);
-    }
-    if !good_point(o) {
-        return Spot::Refused(NUMBER);
-    }
-    if !good_number(t) {
-        return Spot::Refused(NUMBER);
-    }
-    Spot::At(a.lerp(o, t))
+    unless(Refusal::Number, good_point(a))?;
+    unless(Refusal::Number, good_point(o))?;
+    unless(Refusal::Number, good_number(t))?;
+    Ok(a.lerp(o, t))
 }
 
-pub fn cross(a: P, b: P) -> Leaf
+pub fn cross(a: P, b: P) -> Result<f64, Refusal>
     ensures { said result ≡ cross_answer a b }
 {
-    if !good_point(a) {
-        return Leaf::Refused(NUMBER);
-    }
-    if !good_point(b) {
-        return Leaf::Refused(NUMBER);
-    }
-    Leaf::Value(geom::cross(a, b))
+    unless(Refusal::Number, good_point(a))?;
+    unless(Refusal::Number, good_point(b))?;
+    Ok(geom::cross(a, b))
 }
 
 // No check applies to a winding number.
-pub fn inside(rule: FillRule, winding: i64) -> Truth
-    ensures { said_truth result ≡ inside_answer rule winding }
+pub fn inside(rule: FillRule, winding: i64) -> Result<bool, Refusal>
+    ensures { said result ≡ inside_answer rule winding }
 {
-    Truth::Is(rule.inside(winding))
+    Ok(rule.inside(winding))
 }
 
-pub fn winding(corners: &[f64], ends: &[usize], p: P) -> Wound
-    ensures { said_wound result ≡ winding_answer corners.now ends.now p }
+pub fn winding(corners: &[f64], ends: &[usize], p: P) -> Result<i64, Refusal>
+    ensures { said result ≡ winding_answer corners.now ends.now p }
 {
-    if !good_outline(corners, ends) {
-        return Wound::Refused(LAYOUT);
-    }
-    if !good_numbers(corners) {
-        return Wound::Refused(NUMBER);
-    }
-    if !good_point(p) {
-        return Wound::Refused(NUMBER);
-    }
-    Wound::Times(outlines::winding::winding(corners, ends, p))
+    let o = outline(corners, ends)?;
+    unless(Refusal::Number, good_numbers(corners))?;
+    unless(Refusal::Number, good_point(p))?;
+    Ok(Area::of(o, FillRule::NonZero).winding(p))
 }
 
-pub fn point_inside(corners: &[f64], ends: &[usize], rule: FillRule, p: P) -> Truth
-    ensures { said_truth result ≡ point_inside_answer corners.now ends.now rule p }
+pub fn point_inside(corners: &[f64], ends: &[usize], rule: FillRule, p: P) -> Result<bool, Refusal>
+    ensures { said result ≡ point_inside_answer corners.now ends.now rule p }
 {
-    if !good_outline(corners, ends) {
-        return Truth::Refused(LAYOUT);
-    }
-    if !good_numbers(corners) {
-        return Truth::Refused(NUMBER);
-    }
-    if !good_point(p) {
-        return Truth::Refused(NUMBER);
-    }
-    Truth::Is(outlines::inside::point_inside(corners, ends, rule, p))
+    let o = outline(corners, ends)?;
+    unless(Refusal::Number, good_numbers(corners))?;
+    unless(Refusal::Number, good_point(p))?;
+    Ok(Area::of(o, rule).has(p))
 }
 
 pub fn segment_inside(
@@ -164,23 +104,13 @@ pub fn segment_inside(
     a: P,
     b: P,
     step: f64,
-) -> Truth
-    ensures { said_truth result ≡ segment_inside_answer corners.now ends.now rule a b step }
+) -> Result<bool, Refusal>
+    ensures { said result ≡ segment_inside_answer corners.now ends.now rule a b step }
 {
-    if !good_outline(corners, ends) {
-        return Truth::Refused(LAYOUT);
-    }
-    if !good_numbers(corners) {
-        return Truth::Refused(NUMBER);
-    }
-    if !good_point(a) {
-        return Truth::Refused(NUMBER);
-    }
-    if !good_point(b) {
-        return Truth::Refused(NUMBER);
-    }
-    if !good_step(step) {
-        return Truth::Refused(SETTING);
-    }
-    Truth::Is(outlines::inside::segment_inside(corners, ends, rule, a, b, step))
+    let o = outline(corners, ends)?;
+    unless(Refusal::Number, good_numbers(corners))?;
+    unless(Refusal::Number, good_point(a))?;
+    unless(Refusal::Number, good_point(b))?;
+    unless(Refusal::Setting, good_step(step))?;
+    Ok(Area::of(o, rule).has_way(a, b, step))
 }

@@ -1,44 +1,27 @@
 // Document 01's face of the calls along a line: the first check that applies answers, and a refusal writes nothing.
+#![tactic(auto, unfolding(crate::specs::LineAnswers::polyline_length_answer, crate::specs::LineAnswers::resample_refusal, crate::specs::LineAnswers::resample_sewn, crate::specs::LineAnswers::resample_output))]
+
 ghost use Rattle.std.specs.Prelude.{◌≡◌, length};
-ghost use Rattle.leaves.specs.Answer.{said};
+ghost use Rattle.refusal.specs.Refusal.{said};
+ghost use Rattle.refusal.specs.Sewn.{said_sewn};
 ghost use Rattle.geometry.specs.LineAnswers.{polyline_length_answer, resample_sewn, resample_output};
 
-use leaves::checked::Leaf;
 use limits::{good_len, good_line, good_numbers};
-use refusal::{LAYOUT, NUMBER, SETTING, Sewn};
+use refusal::{Refusal, unless};
 
-pub fn polyline_length(line: &[f64]) -> Leaf
+pub fn polyline_length(line: &[f64]) -> Result<f64, Refusal>
     ensures { said result ≡ polyline_length_answer line.now }
 {
-    if !good_line(line) {
-        return Leaf::Refused(LAYOUT);
-    }
-    if !good_numbers(line) {
-        return Leaf::Refused(NUMBER);
-    }
-    Leaf::Value(polyline::polyline_length(line))
+    unless(Refusal::Layout, good_line(line))?;
+    unless(Refusal::Number, good_numbers(line))?;
+    Ok(polyline::polyline_length(line))
 }
 
-pub fn resample_keep_corners(line: &[f64], len: f64, out: &mut [f64]) -> Sewn
-    ensures { (result ≡ resample_sewn line.now len (length out.old)) × (out.new ≡ resample_output line.now len out.old) }
+pub fn resample_keep_corners(line: &[f64], len: f64, out: &mut [f64]) -> Result<u64, Refusal>
+    ensures { (said_sewn result ≡ resample_sewn line.now len (length out.old)) × (out.new ≡ resample_output line.now len out.old) }
 {
-    if !good_line(line) {
-        return Sewn {
-            answer: LAYOUT,
-            points: 0,
-        };
-    }
-    if !good_numbers(line) {
-        return Sewn {
-            answer: NUMBER,
-            points: 0,
-        };
-    }
-    if !good_len(len) {
-        return Sewn {
-            answer: SETTING,
-            points: 0,
-        };
-    }
+    unless(Refusal::Layout, good_line(line))?;
+    unless(Refusal::Number, good_numbers(line))?;
+    unless(Refusal::Setting, good_len(len))?;
     polyline::resample_keep_corners(line, len, out)
 }

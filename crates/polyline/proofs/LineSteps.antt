@@ -15,12 +15,10 @@ use Rattle.seqs.specs.Wrote.{put_room}
 use Rattle.geom.specs.declared.point.P.{P}
 use Rattle.geom.specs.Point.{lerp}
 use Rattle.geom.specs.Steps.{along}
-use Rattle.geom.specs.Outline.{points}
-use Rattle.geom.specs.OutlineLaws.{corner_at}
 use Rattle.geom.specs.Sewing.{flat}
 use Rattle.geom.specs.SewingLaws.{flat_append, points_room, points_put}
-use Rattle.polyline.specs.Line.{piece_steps, steps_from, step_ends, piece, pieces_from, pieces}
-use Rattle.polyline.proofs.LineLaws.{steps_size, steps_next, ends_last, piece_length, pieces_next}
+use Rattle.polyline.specs.Line.{piece_steps, steps_from, step_ends, piece, pieces_from, pieces, resample_keep_corners}
+use Rattle.polyline.proofs.LineLaws.{steps_size, steps_next, ends_last, piece_length}
 
 -- the end of step i of n, not the last, is next
 module _ {d₀ d : List Float} {at : ℕ} (k : ℕ) (a b : P) (n i : ℕ)
@@ -48,23 +46,56 @@ module _ (a b : P) (n : ℕ) (more : 0 < n) where
       let s = steps_size a b n 1 (n - 1) in
       put_then d d₁ y (flat (steps_from a b n 1 (n - 1))) (flat (b ∷ [])) k at (omega (arith, s)) e (omega (arith, s, g)) w ∙ rw ends_flat
 
--- the piece from p to corner i is next
-module _ {d₀ d : List Float} {at : ℕ} (k : ℕ) (l : List Float) (len : Float) (p : P) (i : ℕ)
-    (f : Front d₀ d at (flat (pieces_from p (points (drop i l)) len)) (take k d₀ ++ flat (pieces (points l) len)))
-    (fits : k + length (flat (pieces (points l) len)) ≤ length d₀) (more : i + 1 < length l) where
-  piece_up : Front d₀ d at (flat (piece p (corner_at l i) len ++ pieces_from (corner_at l i) (points (drop (i + 2) l)) len)) (take k d₀ ++ flat (pieces (points l) len))
-  piece_up = front_at (ap flat (pieces_next l len p i more)) f
+-- ---- a line by its first corner and those after it
 
-  whole : length (take k d₀ ++ flat (pieces (points l) len)) ≤ length d₀
-  whole = put_room d₀ (flat (pieces (points l) len)) k fits
+module _ {ps : List P} (len : Float) where
+  pub line_none : ps ≡ [] → resample_keep_corners ps len ≡ []
+  unfolding resample_keep_corners pieces
+  line_none e = rw e
 
-  pub piece_room : at + 2 * piece_steps p (corner_at l i) len ≤ length d
-  piece_room = rw (piece_length p (corner_at l i) len) at (points_room (piece p (corner_at l i) len) (pieces_from (corner_at l i) (points (drop (i + 2) l)) len) piece_up whole)
+  module _ {p : P} {rest : List P} (e : ps ≡ p ∷ rest) where
+    pub line_of : resample_keep_corners ps len ≡ p ∷ pieces_from p rest len
+    unfolding resample_keep_corners pieces
+    line_of = rw e
 
-  pub piece_put : (y : List Float) → y ≡ put d at (flat (step_ends p (corner_at l i) (piece_steps p (corner_at l i) len)))
-      → Front d₀ y (at + 2 * piece_steps p (corner_at l i) len) (flat (pieces_from (corner_at l i) (points (drop (i + 2) l)) len)) (take k d₀ ++ flat (pieces (points l) len))
-  unfolding piece
-  piece_put y e = rw (piece_length p (corner_at l i) len) at (points_put (piece p (corner_at l i) len) (pieces_from (corner_at l i) (points (drop (i + 2) l)) len) piece_up whole y e)
+    pub line_count : length (resample_keep_corners ps len) ≡ 1 + length (pieces_from p rest len)
+    line_count = omega (arith, ap length line_of)
+
+    line_flat : flat (resample_keep_corners ps len) ≡ flat (p ∷ []) ++ flat (pieces_from p rest len)
+    line_flat = ap flat line_of ∙ flat_append (p ∷ []) (pieces_from p rest len)
+
+    pub line_length : length (flat (resample_keep_corners ps len)) ≡ 2 + length (flat (pieces_from p rest len))
+    unfolding flat
+    line_length = omega (arith, ap length line_flat)
+
+    pub put_line_of : (d d₁ y : List Float) (k : ℕ) → k + length (flat (resample_keep_corners ps len)) ≤ length d → d₁ ≡ put d k (flat (p ∷ []))
+        → y ≡ put d₁ (k + 2) (flat (pieces_from p rest len)) → y ≡ put d k (flat (resample_keep_corners ps len))
+    unfolding flat
+    put_line_of d d₁ y k fits f w = put_then d d₁ y (flat (p ∷ [])) (flat (pieces_from p rest len)) k (k + 2) (omega (arith, fits, line_length)) f refl w ∙ rw line_flat
+
+pub pieces_none : (p : P) (len : Float) → length (pieces_from p [] len) ≡ 0
+unfolding pieces_from
+pieces_none p len = refl
+
+pub piece_count : (p q : P) (rest : List P) (len : Float) → length (pieces_from p (q ∷ rest) len) ≡ piece_steps p q len + length (pieces_from q rest len)
+unfolding pieces_from
+piece_count p q rest len = length-append (piece p q len) (pieces_from q rest len) ∙ ap (λ (k : ℕ). k + length (pieces_from q rest len)) (piece_length p q len)
+
+-- the piece from p to q is next
+module _ {d₀ d : List Float} {at : ℕ} (k : ℕ) (from : P) (corners : List P) (len : Float) (p q : P) (rest : List P)
+    (f : Front d₀ d at (flat (pieces_from p (q ∷ rest) len)) (take k d₀ ++ flat (pieces_from from corners len)))
+    (fits : k + length (flat (pieces_from from corners len)) ≤ length d₀) where
+  whole : length (take k d₀ ++ flat (pieces_from from corners len)) ≤ length d₀
+  whole = put_room d₀ (flat (pieces_from from corners len)) k fits
+
+  pub piece_room : at + 2 * piece_steps p q len ≤ length d
+  unfolding pieces_from
+  piece_room = rw (piece_length p q len) at (points_room (piece p q len) (pieces_from q rest len) f whole)
+
+  pub piece_put : (y : List Float) → y ≡ put d at (flat (step_ends p q (piece_steps p q len)))
+      → Front d₀ y (at + 2 * piece_steps p q len) (flat (pieces_from q rest len)) (take k d₀ ++ flat (pieces_from from corners len))
+  unfolding pieces_from piece
+  piece_put y e = rw (piece_length p q len) at (points_put (piece p q len) (pieces_from q rest len) f whole y e)
 
 -- a block over another of its size
 put_over : (d x y : List Float) (k : ℕ) → k + length x ≤ length d → length y ≡ length x → put (put d k x) k y ≡ put d k y

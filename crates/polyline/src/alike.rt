@@ -25,14 +25,14 @@ pub fn pieces_of(n: u64, len: f64) -> Alike
             return Alike {
                 from: lo * lo,
                 to: hi * hi,
-                n: n,
+                n,
             };
         }
     }
     Alike {
         from: 0.0,
         to: 0.0,
-        n: n,
+        n,
     }
 }
 

@@ -2,11 +2,11 @@
 #![tactic(auto)]
 
 ghost use Rattle.std.specs.Prelude.{◌≡◌, ◌+◌, ◌*◌, ◌^◌, ◌<◌, ◌≤◌, length};
-ghost use Rattle.refusal.specs.Sewn.{sewn, output};
+ghost use Rattle.refusal.specs.Sewn.{said_sewn, sewn, output};
 ghost use Rattle.seqs.specs.Slices.{put, capped};
 ghost use Rattle.geom.specs.Outline.{points};
 ghost use Rattle.geom.specs.Sewing.{flat, fitted};
-ghost use Rattle.polyline.specs.Line.{polyline_length, step_ends, pieces, resample_keep_corners};
+ghost use Rattle.polyline.specs.Line.{polyline_length, step_ends, pieces_from, resample_keep_corners};
 
 pub mod alike;
 pub mod cuts;
@@ -15,9 +15,9 @@ use alike::{known, learnt, pieces_of, steps_of};
 pub use cuts::piece_steps;
 use geom::P;
 use geom::flat::Points;
-use geom::sewing::{corner, put_point};
+use geom::sewing::put_point;
 use geom::steps::along;
-use refusal::{DONE, ROOM, Sewn};
+use refusal::Refusal;
 
 pub fn polyline_length(line: &[f64]) -> f64
     ensures { result ≡ polyline_length (points line.now) }
@@ -39,21 +39,19 @@ pub fn count_line(line: &[f64], len: f64, room: u64) -> u64
     requires { room < 2 ^ 63 }
     ensures { result ≡ capped room (length (resample_keep_corners (points line.now) len)) }
 {
-    if line.len() < 2 {
+    let mut corners = Points::of(line);
+    let Some(mut p) = corners.next() else {
         return 0;
-    }
+    };
     if room == 0 {
         return 1;
     }
-    let mut p = corner(line, 0);
     let one = pieces_of(1, len);
     let two = pieces_of(2, len);
     let mut s = two;
     let mut m: u64 = 0;
     let mut c: u64 = 1;
-    let mut i = 2;
-    while i + 1 < line.len() {
-        let q = corner(line, i);
+    for q in corners {
         let v = p.minus(q);
         let d = v.dot(v);
         let k = known(d, one, two, s);
@@ -65,7 +63,6 @@ pub fn count_line(line: &[f64], len: f64, room: u64) -> u64
         s = learnt(k, n, m, len, s);
         m = n;
         p = q;
-        i += 2;
     }
     c
 }
@@ -76,11 +73,9 @@ fn put_steps(out: &mut [f64], k: usize, a: P, b: P, n: u64) -> usize
     ensures { (out.new ≡ put out.old k (flat (step_ends a b n))) × (result ≡ k + 2 * n) }
 {
     let mut at = k;
-    let mut i: u64 = 1;
-    while i < n {
+    for i in 1..n {
         put_point(out, at, along(a, b, n, i));
         at += 2;
-        i += 1;
     }
     put_point(out, at, b);
     at + 2
@@ -103,20 +98,18 @@ pub fn put_piece(out: &mut [f64], k: usize, a: P, b: P, n: u64) -> usize
     last + 2
 }
 
-// All points after the first corner, from k on; answers the place after them.
-fn put_pieces(out: &mut [f64], k: usize, line: &[f64], len: f64) -> usize
-    requires { (1 < length line.now) × (k + length (flat (pieces (points line.now) len)) ≤ length out.old) }
-    ensures { (out.new ≡ put out.old k (flat (pieces (points line.now) len))) × (result ≡ k + length (flat (pieces (points line.now) len))) }
+// The pieces from p to each of the corners in turn, from k on; answers the place after them.
+fn put_pieces(out: &mut [f64], k: usize, from: P, corners: Points, len: f64) -> usize
+    requires { k + length (flat (pieces_from from corners len)) ≤ length out.old }
+    ensures { (out.new ≡ put out.old k (flat (pieces_from from corners.entry len))) × (result ≡ k + length (flat (pieces_from from corners.entry len))) }
 {
-    let mut p = corner(line, 0);
     let one = pieces_of(1, len);
     let two = pieces_of(2, len);
     let mut s = two;
     let mut m: u64 = 0;
     let mut at = k;
-    let mut i = 2;
-    while i + 1 < line.len() {
-        let q = corner(line, i);
+    let mut p = from;
+    for q in corners {
         let v = p.minus(q);
         let d = v.dot(v);
         let told = known(d, one, two, s);
@@ -125,7 +118,6 @@ fn put_pieces(out: &mut [f64], k: usize, line: &[f64], len: f64) -> usize
         s = learnt(told, n, m, len, s);
         m = n;
         p = q;
-        i += 2;
     }
     at
 }
@@ -135,28 +127,23 @@ pub fn put_line(out: &mut [f64], k: usize, line: &[f64], len: f64) -> usize
     requires { k + length (flat (resample_keep_corners (points line.now) len)) ≤ length out.old }
     ensures { (out.new ≡ put out.old k (flat (resample_keep_corners (points line.now) len))) × (result ≡ k + length (flat (resample_keep_corners (points line.now) len))) }
 {
-    if line.len() < 2 {
+    let mut corners = Points::of(line);
+    let Some(p) = corners.next() else {
         return k;
-    }
-    put_point(out, k, corner(line, 0));
-    put_pieces(out, k + 2, line, len)
+    };
+    put_point(out, k, p);
+    put_pieces(out, k + 2, p, corners, len)
 }
 
 // The resampled line to the front of out, or ROOM and nothing.
-pub fn resample_keep_corners(line: &[f64], len: f64, out: &mut [f64]) -> Sewn
-    ensures { (result ≡ sewn (fitted (resample_keep_corners (points line.now) len) (length out.old)) (length (resample_keep_corners (points line.now) len))) × (out.new ≡ output (fitted (resample_keep_corners (points line.now) len) (length out.old)) (flat (resample_keep_corners (points line.now) len)) out.old) }
+pub fn resample_keep_corners(line: &[f64], len: f64, out: &mut [f64]) -> Result<u64, Refusal>
+    ensures { (said_sewn result ≡ sewn (fitted (resample_keep_corners (points line.now) len) (length out.old)) (length (resample_keep_corners (points line.now) len))) × (out.new ≡ output (fitted (resample_keep_corners (points line.now) len) (length out.old)) (flat (resample_keep_corners (points line.now) len)) out.old) }
 {
     let room = (out.len() / 2) as u64;
     let points = count_line(line, len, room);
     if points > room {
-        return Sewn {
-            answer: ROOM,
-            points: 0,
-        };
+        return Err(Refusal::Room);
     }
     put_line(out, 0, line, len);
-    Sewn {
-        answer: DONE,
-        points: points,
-    }
+    Ok(points)
 }

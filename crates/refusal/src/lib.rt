@@ -1,7 +1,7 @@
 // Document 01's table of answers, with those that requests add: why a call refuses.
 #![tactic(auto)]
 
-ghost use Rattle.std.specs.Prelude.{◌≡◌};
+ghost use Rattle.std.specs.Prelude.{◌≡◌, true, false, MatchResult};
 
 use std::error::Error;
 use std::fmt;
@@ -31,6 +31,13 @@ pub enum Refusal {
     Absent,
     // The sheet is of a later version.
     Version,
+}
+
+// A check: it refuses with e unless its test holds.
+pub fn unless(e: Refusal, ok: bool) -> Result<(), Refusal>
+    ensures { MatchResult result (λ _. ok ≡ true) (λ f. (f ≡ e) × (ok ≡ false)) }
+{
+    if ok { Ok(()) } else { Err(e) }
 }
 
 // The table's number.

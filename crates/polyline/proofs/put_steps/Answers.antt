@@ -15,29 +15,29 @@ use Rattle.polyline.proofs.put_steps.Goals as goal
 pub loop-i-init : goal.loop-i-init
 loop-i-init c =
     let a = c.args in
-    (search rules, search rules, refl, front_from _ _ a.k (omega (arith, c.requires.1)))
+    (refl, front_from _ _ a.k (omega (arith, c.requires.1)))
 
 pub put_point-requires : goal.put_point-requires
 put_point-requires c =
     let a = c.args in
     let l = c.loop-i in
-    omega (arith, step_room a.k a.a a.b a.n l.i l.invariant.3 c.requires.1 (search rules))
+    omega (arith, step_room a.k a.a a.b a.n l.i l.invariant.1 c.requires.1 (search rules))
 
 pub loop-i-preserved : goal.loop-i-preserved
 loop-i-preserved c =
     let a = c.args in
     let l = c.loop-i in
     let e = rw c.along.ensures at c.put_point.ensures in
-    (search rules, search rules, omega arith, step_put a.k a.a a.b a.n l.i l.invariant.3 c.requires.1 (search rules) _ e)
+    (omega arith, step_put a.k a.a a.b a.n l.i l.invariant.1 c.requires.1 (search rules) _ e)
 
 pub put_point-requires-2 : goal.put_point-requires-2
 put_point-requires-2 c =
     let l = c.loop-i in
-    omega (arith, l.invariant.3.len, l.invariant.2, l.invariant.1, c.requires)
+    omega (arith, l.invariant.1.len, l.invariant.0, c.requires)
 
 pub returns : goal.returns
 returns c =
     let a = c.args in
     let l = c.loop-i in
-    let e = put_end (flat (steps_from a.a a.b a.n 1 (a.n - 1))) a.k (omega (arith, c.requires.1)) (front_at (flat_none (steps_none a.a a.b a.n l.i (search rules))) l.invariant.3) in
+    let e = put_end (flat (steps_from a.a a.b a.n 1 (a.n - 1))) a.k (omega (arith, c.requires.1)) (front_at (flat_none (steps_none a.a a.b a.n l.i (search rules))) l.invariant.1) in
     (last_put a.a a.b a.n c.requires.0 a.out.now _ _ a.k l.at c.requires.1 e.0 (omega (arith, e.1, steps_size a.a a.b a.n 1 (a.n - 1))) c.put_point-2.ensures, omega (arith, e.1, steps_size a.a a.b a.n 1 (a.n - 1)))

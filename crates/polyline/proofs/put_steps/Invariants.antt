@@ -9,7 +9,4 @@ use Rattle.geom.specs.Sewing.{flat}
 use Rattle.polyline.proofs.put_steps.Given as goal
 
 abbrev pub invariant-loop-i : goal.invariant-loop-i
-invariant-loop-i l = (1 ≤ l.i) × (l.i ≤ l.n) × (l.at + 2 ≡ l.k + 2 * l.i) × Front l.initial.out l.out l.at (flat (steps_from l.a l.b l.n l.i (l.n - l.i))) (take l.k l.initial.out ++ flat (steps_from l.a l.b l.n 1 (l.n - 1)))
-
-abbrev pub decreases-loop-i : goal.decreases-loop-i
-decreases-loop-i l = l.n - l.i
+invariant-loop-i l = (l.at + 2 ≡ l.k + 2 * l.i) × Front l.initial.out l.out l.at (flat (steps_from l.a l.b l.n l.i (l.n - l.i))) (take l.k l.initial.out ++ flat (steps_from l.a l.b l.n 1 (l.n - 1)))
