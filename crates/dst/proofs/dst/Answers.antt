@@ -1,9 +1,11 @@
 -- `dst` meets its contract: each answer follows from the tests on the way to it. Assumes nothing.
-use mathlib.Core.Path.{◌≡◌, refl, sym, ◌∙◌}
-use Prim.Native.Nat.{◌+◌, ◌*◌, ◌/◌, ◌≤◌, ◌<◌}
+use mathlib.Core.Path.{◌≡◌, refl, sym, ap, ◌∙◌}
+use Prim.Native.Nat.{ℕ, ◌+◌, ◌*◌, ◌/◌, ◌≤◌, ◌<◌}
 use native.Mathlib.Omega.{arith}
 use lib.ListN.{length}
 use borrow.Author.Tests.{eq-eqb, ne_eqb, le-leb, lt-leb}
+use Rattle.std.specs.Prelude.{Ok}
+use Rattle.refusal.specs.Sewn.{said_written}
 use Rattle.seqs.specs.Capped.{capped_exact, capped_past}
 use Rattle.geom.specs.Outline.{points}
 use Rattle.dst.specs.Thread.{origin, thread, dst_bytes}
@@ -44,4 +46,4 @@ returns c =
     let n = capped_exact (length a.out.now / 3) (1 + length (thread origin ps)) c.count-n.ensures c.if-n-room.false in
     let e : 3 * c.count-n.result ≡ length (dst_bytes ps) = omega (arith, bytes_length ps, n) in
     let h : length (dst_bytes ps) ≤ length a.out.now = omega (arith, e, c.if-n-room.false) in
-    rw (eq-eqb _ 0 c.if-points-ne0.false, sym c.good_numbers.ensures ∙ c.if-not-good_numbers.false, le-leb (length (dst_bytes ps)) (length a.out.now) h) (rw e, c.write.ensures)
+    rw (eq-eqb _ 0 c.if-points-ne0.false, sym c.good_numbers.ensures ∙ c.if-not-good_numbers.false, le-leb (length (dst_bytes ps)) (length a.out.now) h) (ap (λ (b : ℕ). said_written (Ok b)) e, c.write.ensures)
