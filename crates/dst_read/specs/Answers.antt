@@ -3,7 +3,7 @@ use Rattle.std.specs.Prelude.{ℕ, ◌*◌, cond, List, eqb, leb, length, Float}
 use Rattle.refusal.specs.Refusal.{DONE, ROOM, unless, ◌then◌}
 use Rattle.refusal.specs.Sewn.{output}
 use Rattle.dst.specs.Thread.{origin}
-use Rattle.dst_read.specs.declared.Read.{Read}
+use Rattle.dst_read.specs.Unread.{Read}
 use Rattle.dst_read.specs.Names.{RECORD}
 use Rattle.dst_read.specs.Reading.{verdict, Marked, points_from, coordinates, marks_of}
 

@@ -8,3 +8,5 @@ pub mod Told
 pub mod LiftedLaws
 pub mod ReadingLaws
 pub mod Examples
+pub mod Unread
+pub mod Mark

@@ -4,7 +4,7 @@ use Rattle.refusal.specs.Refusal.{DONE, SIZE}
 use Rattle.numbers.specs.Num.{real}
 use Rattle.dst.specs.Said.{said_x, said_y}
 use Rattle.dst.specs.Thread.{Whole, whole}
-use Rattle.dst_read.specs.declared.scan.Verdict.{Verdict}
+use Rattle.dst_read.specs.Unread.{Verdict}
 use Rattle.dst_read.specs.Names.{RECORD, CUT, most_records}
 use Rattle.dst_read.specs.Record.{bad, is_end, mark_of}
 

@@ -7,7 +7,7 @@ use borrow.Author.Tests.{le-leb, lt-leb, leb-false}
 use Rattle.seqs.specs.Front.{next}
 use Rattle.refusal.specs.Refusal.{DONE, SIZE}
 use Rattle.dst.specs.Thread.{Whole}
-use Rattle.dst_read.specs.declared.scan.Verdict.{Verdict}
+use Rattle.dst_read.specs.Unread.{Verdict}
 use Rattle.dst_read.specs.Names.{RECORD, CUT, most_records}
 use Rattle.dst_read.specs.Record.{bad, is_end, mark_of}
 use Rattle.dst_read.specs.Reading.{stop, verdict, goes, points_from, coordinates, marks_of}

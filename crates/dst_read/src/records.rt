@@ -1,9 +1,10 @@
 // A record read: what its bits say, and when it is turned away.
 ghost use Rattle.std.specs.Prelude.{◌≡◌, ◌+◌, ◌*◌, ◌/◌, ◌%◌, ◌<◌, ◌≤◌, length, get_or, eqb};
 ghost use Rattle.dst.specs.Said.{added_x, taken_x, added_y, taken_y};
+ghost use Rattle.dst_read.specs.Mark.{mark_number};
 ghost use Rattle.dst_read.specs.Record.{clashes, bad_third, bad, is_end, mark_of, weighed};
 
-use crate::names::{JUMP, STITCH, STOP};
+use crate::mark::Mark;
 
 // The three bytes.
 #[derive(Clone, Copy)]
@@ -76,16 +77,16 @@ impl Record {
 
     // Bit 7 alone is a jump, both a stop.
     #[tactic(auto, unfolding(crate::specs::Record::mark_of))]
-    pub fn mark(self) -> u64
-        ensures { result ≡ mark_of self.c }
+    pub fn mark(self) -> Mark
+        ensures { mark_number result ≡ mark_of self.c }
     {
         if bit(self.c, 128) == 0 {
-            return STITCH;
+            return Mark::Stitch;
         }
         if bit(self.c, 64) == 0 {
-            return JUMP;
+            return Mark::Jump;
         }
-        STOP
+        Mark::Stop
     }
 
     // The weights whose bits are set: 1 and 3 by the bit `lo` of the first two bytes, 9, 27 and 81 by `hi` of all three.

@@ -1,45 +1,40 @@
 // Where the reading of a file stops, and with which answer: nothing is written before that is known.
 ghost use Rattle.std.specs.Prelude.{◌≡◌};
 ghost use Rattle.dst_read.specs.Reading.{verdict};
+ghost use Rattle.dst_read.specs.Unread.{said_verdict};
 
-use crate::names::{CUT, MOST_RECORDS, RECORD};
 use crate::records::Record;
-use refusal::{DONE, SIZE};
+use crate::unread::Unread;
+use refusal::Refusal;
 
-// The answer, and the number of the record that it was met at: of DONE, how many stand before the end.
-#[derive(Clone, Copy)]
-pub struct Verdict {
-    pub answer: u64,
-    pub number: usize,
-}
+const MOST_RECORDS: usize = 1000000;
 
-pub fn scan(bytes: &[u8]) -> Verdict
-    ensures { result ≡ verdict 0 bytes.now }
+// How many records stand before the end.
+pub fn scan(bytes: &[u8]) -> Result<usize, Unread>
+    ensures { said_verdict result ≡ verdict 0 bytes.now }
 {
     let whole = bytes.len() / 3;
     for r in 0..whole {
         let record = Record::at(bytes, r);
         if record.is_end() {
-            return Verdict {
-                answer: DONE,
-                number: r,
-            };
+            return Ok(r);
         }
+        let number = r as u64;
         if r >= MOST_RECORDS {
-            return Verdict {
-                answer: SIZE,
-                number: r,
-            };
+            return Err(Unread {
+                refusal: Refusal::Size,
+                number,
+            });
         }
         if record.is_bad() {
-            return Verdict {
-                answer: RECORD,
-                number: r,
-            };
+            return Err(Unread {
+                refusal: Refusal::Record,
+                number,
+            });
         }
     }
-    Verdict {
-        answer: CUT,
-        number: whole,
-    }
+    Err(Unread {
+        refusal: Refusal::Cut,
+        number: whole as u64,
+    })
 }

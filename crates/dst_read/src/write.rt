@@ -33,6 +33,6 @@ pub fn write(bytes: &[u8], n: usize, points: &mut [f64], marks: &mut [u64])
         y = y + record.added_y() - record.taken_y();
         points[2 * r] = back(x);
         points[2 * r + 1] = back(y);
-        marks[r] = record.mark();
+        marks[r] = u64::from(record.mark());
     }
 }

@@ -1,5 +1,5 @@
 -- `write` meets its contract: the points of the records from r on are to be written from 2·r on, their marks from r on. Assumes nothing.
-use mathlib.Core.Path.{◌≡◌}
+use mathlib.Core.Path.{◌≡◌, ◌∙◌}
 use Prim.Native.Nat.{◌-◌, ◌*◌}
 use native.Mathlib.Omega.{arith}
 use lib.ListN.{drop, length-set}
@@ -47,7 +47,7 @@ pub loop-r-preserved : goal.loop-r-preserved
 loop-r-preserved c =
     let a = c.args in
     let l = c.loop-r in
-    let t = put_next a.bytes.now a.n l.r c.loop-r-test.true c.requires.stand l.x l.y c.at-record.result.a c.at-record.result.b c.at-record.result.c c.added_x.result c.taken_x.result c.added_y.result c.taken_y.result c.at-record.ensures.0 c.at-record.ensures.1 c.at-record.ensures.2 c.added_x.ensures.0 c.taken_x.ensures.0 c.added_y.ensures.0 c.taken_y.ensures.0 (omega (arith, l.invariant.0, c.taken_x.ensures.1, c.requires.few, c.loop-r-test.true)) (omega (arith, l.invariant.2, c.taken_y.ensures.1, c.requires.few, c.loop-r-test.true)) l.invariant.4 l.invariant.5 c.requires.points_fit c.requires.marks_fit c.back.result c.back-in-loop-r.result c.mark.result c.back.ensures c.back-in-loop-r.ensures c.mark.ensures in
+    let t = put_next a.bytes.now a.n l.r c.loop-r-test.true c.requires.stand l.x l.y c.at-record.result.a c.at-record.result.b c.at-record.result.c c.added_x.result c.taken_x.result c.added_y.result c.taken_y.result c.at-record.ensures.0 c.at-record.ensures.1 c.at-record.ensures.2 c.added_x.ensures.0 c.taken_x.ensures.0 c.added_y.ensures.0 c.taken_y.ensures.0 (omega (arith, l.invariant.0, c.taken_x.ensures.1, c.requires.few, c.loop-r-test.true)) (omega (arith, l.invariant.2, c.taken_y.ensures.1, c.requires.few, c.loop-r-test.true)) l.invariant.4 l.invariant.5 c.requires.points_fit c.requires.marks_fit c.back.result c.back-in-loop-r.result c.from.result c.back.ensures c.back-in-loop-r.ensures (c.from.ensures ∙ c.mark.ensures) in
     (omega (arith, l.invariant.0, c.added_x.ensures.1, c.taken_x.ensures.1), omega (arith, l.invariant.1, c.added_x.ensures.1, c.taken_x.ensures.1), omega (arith, l.invariant.2, c.added_y.ensures.1, c.taken_y.ensures.1), omega (arith, l.invariant.3, c.added_y.ensures.1, c.taken_y.ensures.1), t.0, t.1)
 
 pub shape_of-points : goal.shape_of-points
