@@ -6,8 +6,7 @@
 ghost use Rattle.std.specs.Prelude.{◌≡◌, ◌+◌, ◌-◌, ◌*◌, ◌≤◌, ◌<◌, length};
 ghost use Rattle.seqs.specs.Lists.{All};
 ghost use Rattle.seqs.specs.Slices.{Wrote};
-ghost use Rattle.geom.specs.Outline.{rings, Layout};
-ghost use Rattle.outlines.specs.Heights.{Measured};
+ghost use Rattle.geom.specs.Rings.{rings_of};
 ghost use Rattle.rules.specs.Fill.{overlap, link_ends, link_inside, connects, begun};
 ghost use Rattle.rules.specs.Rise.{Rise};
 ghost use Rattle.sections.specs.Mark.{piece_in, entry_in, Ranges, Within, Low, joins_at, mark_at, after_at, flat_mark, row_marks, row_new, flat_marks, row_end, rows_in, marked_in};
@@ -16,12 +15,11 @@ ghost use Rattle.sections.specs.Rises.{Rising};
 mod rise;
 
 use crate::rise::{meets_one, only_open};
-use geom::P;
 use geom::steps::along;
+use geom::{Outline, P};
 use leaves::smaller;
-use outlines::FillRule;
 use outlines::heights::{HEIGHTS, heights};
-use outlines::inside::point_inside_by;
+use outlines::{Area, FillRule};
 use rules::{Entry, Piece, Settings};
 
 #[derive(Clone, Copy)]
@@ -114,37 +112,19 @@ fn link_ends(o: Entry, next: Piece) -> Link
 }
 
 // Point k of four on the way, turned back, is inside.
-fn link_inside(
-    corners: &[f64],
-    ends: &[usize],
-    h: &[f64],
-    rule: FillRule,
-    g: Settings,
-    link: Link,
-    k: u64,
-) -> bool
-    requires { Measured corners.now ends.now h.now }
-    ensures { result ≡ link_inside (rings corners.now ends.now) rule g (link.from, link.to) k }
+fn link_inside(area: Area, g: Settings, link: Link, k: u64) -> bool
+    ensures { result ≡ link_inside (rings_of area.entry.outline) area.entry.rule g (link.from, link.to) k }
 {
     let q = along(link.from, link.to, 4, k).rotate(g.cosine, g.sine);
-    point_inside_by(corners, ends, h, rule, q)
+    area.has(q)
 }
 
 // Three points of the link are inside.
-fn connects(
-    corners: &[f64],
-    ends: &[usize],
-    h: &[f64],
-    rule: FillRule,
-    g: Settings,
-    o: Entry,
-    next: Piece,
-) -> bool
-    requires { Measured corners.now ends.now h.now }
-    ensures { result ≡ connects (rings corners.now ends.now) rule g o next }
+fn connects(area: Area, g: Settings, o: Entry, next: Piece) -> bool
+    ensures { result ≡ connects (rings_of area.entry.outline) area.entry.rule g o next }
 {
     let link = link_ends(o, next);
-    (1..4).all(|k| link_inside(corners, ends, h, rule, g, link, k))
+    (1..4).all(|k| link_inside(area, g, link, k))
 }
 
 // What all rows of a fill share.
@@ -156,17 +136,15 @@ pub struct Fill {
 
 // The open place that the piece at j joins, if there is one.
 fn joins(
-    corners: &[f64],
-    ends: &[usize],
-    h: &[f64],
-    f: Fill,
+    area: Area,
+    g: Settings,
     pieces: &[f64],
     wholes: &[usize],
     s: Row,
     j: usize,
 ) -> Option<usize>
-    requires { Measured corners.now ends.now h.now × Ranges s pieces.now wholes.now × (j < s.r1) × (s.r0 ≤ j) × Rising pieces.now s.b0 s.r0 × Rising pieces.now s.r0 s.r1 }
-    ensures { (result ≡ joins_at (rings corners.now ends.now) f.rule f.settings pieces.now wholes.now s j) × Within result s.b0 s.r0 }
+    requires { Ranges s pieces.now wholes.now × (j < s.r1) × (s.r0 ≤ j) × Rising pieces.now s.b0 s.r0 × Rising pieces.now s.r0 s.r1 }
+    ensures { (result ≡ joins_at (rings_of area.entry.outline) area.entry.rule g pieces.now wholes.now s j) × Within result s.b0 s.r0 }
 {
     let p = piece_at(pieces, j);
     let t = only_open(pieces, s.b0, s.r0, p)?;
@@ -174,7 +152,7 @@ fn joins(
     if !meets_one(pieces, s.r0, s.r1, j, o.piece) {
         return None;
     }
-    if connects(corners, ends, h, f.rule, f.settings, o, p) {
+    if connects(area, g, o, p) {
         return Some(t);
     }
     None
@@ -183,20 +161,18 @@ fn joins(
 // The mark of the piece at j, where a new section gets the number `new`.
 #[tactic(auto, unfolding(crate::specs::Mark::mark_at))]
 fn mark_at(
-    corners: &[f64],
-    ends: &[usize],
-    h: &[f64],
-    f: Fill,
+    area: Area,
+    g: Settings,
     pieces: &[f64],
     wholes: &[usize],
     s: Row,
     new: usize,
     j: usize,
 ) -> Mark
-    requires { Measured corners.now ends.now h.now × Ranges s pieces.now wholes.now × (j < s.r1) × Low s.n s.b0 s.r0 wholes.now 1000000 × (s.r0 ≤ j) × Rising pieces.now s.b0 s.r0 × Rising pieces.now s.r0 s.r1 }
-    ensures { result ≡ mark_at (rings corners.now ends.now) f.rule f.settings pieces.now wholes.now s new j }
+    requires { Ranges s pieces.now wholes.now × (j < s.r1) × Low s.n s.b0 s.r0 wholes.now 1000000 × (s.r0 ≤ j) × Rising pieces.now s.b0 s.r0 × Rising pieces.now s.r0 s.r1 }
+    ensures { result ≡ mark_at (rings_of area.entry.outline) area.entry.rule g pieces.now wholes.now s new j }
 {
-    match joins(corners, ends, h, f, pieces, wholes, s, j) {
+    match joins(area, g, pieces, wholes, s, j) {
         None => Mark {
             section: new,
             nth: 0,
@@ -228,21 +204,19 @@ fn put_mark(wholes: &mut [usize], k: usize, m: Mark)
 
 // The marks of a row's pieces; the number of the next new section.
 fn mark_row(
-    corners: &[f64],
-    ends: &[usize],
-    h: &[f64],
-    f: Fill,
+    area: Area,
+    g: Settings,
     pieces: &[f64],
     wholes: &mut [usize],
     s: Row,
     new: usize,
 ) -> usize
-    requires { Measured corners.now ends.now h.now × Ranges s pieces.now wholes.old × Low s.n s.b0 s.r0 wholes.old 1000000 × (s.n ≤ 10000000) × (new ≤ s.r0) × Rising pieces.now s.b0 s.r0 × Rising pieces.now s.r0 s.r1 }
-    ensures { Wrote wholes.old wholes.new (s.n + 2 * s.r0) (row_marks (rings corners.now ends.now) f.rule f.settings pieces.now wholes.old s new s.r0 (s.r1 - s.r0)) × (result ≡ row_new (rings corners.now ends.now) f.rule f.settings pieces.now wholes.old s new s.r0 (s.r1 - s.r0)) × (result ≤ s.r1) }
+    requires { Ranges s pieces.now wholes.old × Low s.n s.b0 s.r0 wholes.old 1000000 × (s.n ≤ 10000000) × (new ≤ s.r0) × Rising pieces.now s.b0 s.r0 × Rising pieces.now s.r0 s.r1 }
+    ensures { Wrote wholes.old wholes.new (s.n + 2 * s.r0) (row_marks (rings_of area.entry.outline) area.entry.rule g pieces.now wholes.old s new s.r0 (s.r1 - s.r0)) × (result ≡ row_new (rings_of area.entry.outline) area.entry.rule g pieces.now wholes.old s new s.r0 (s.r1 - s.r0)) × (result ≤ s.r1) }
 {
     let mut section = new;
     for j in s.r0..s.r1 {
-        let m = mark_at(corners, ends, h, f, pieces, wholes, s, section, j);
+        let m = mark_at(area, g, pieces, wholes, s, section, j);
         put_mark(wholes, s.n + 2 * j, m);
         section = after(section, m);
     }
@@ -259,17 +233,15 @@ fn row_end(wholes: &[usize], n: usize, i: usize, r: usize) -> usize
 
 // The marks of all pieces, row by row.
 fn mark_rows(
-    corners: &[f64],
-    ends: &[usize],
-    h: &[f64],
-    f: Fill,
+    area: Area,
+    g: Settings,
     pieces: &[f64],
     wholes: &mut [usize],
     n: usize,
     rows: usize,
 ) -> usize
-    requires { Measured corners.now ends.now h.now × (3 * n ≤ length pieces.now) × (3 * n ≤ length wholes.old) × (n ≤ 10000000) × (rows ≤ 4096) × All Rise (rows_in pieces.now wholes.old n 0 0 rows) }
-    ensures { Wrote wholes.old wholes.new n (flat_marks (marked_in (rings corners.now ends.now) f.rule f.settings pieces.now wholes.old n rows)) × (result ≡ begun (marked_in (rings corners.now ends.now) f.rule f.settings pieces.now wholes.old n rows)) × (result ≤ n) }
+    requires { (3 * n ≤ length pieces.now) × (3 * n ≤ length wholes.old) × (n ≤ 10000000) × (rows ≤ 4096) × All Rise (rows_in pieces.now wholes.old n 0 0 rows) }
+    ensures { Wrote wholes.old wholes.new n (flat_marks (marked_in (rings_of area.entry.outline) area.entry.rule g pieces.now wholes.old n rows)) × (result ≡ begun (marked_in (rings_of area.entry.outline) area.entry.rule g pieces.now wholes.old n rows)) × (result ≤ n) }
 {
     let mut b0 = 0;
     let mut r0 = 0;
@@ -277,7 +249,7 @@ fn mark_rows(
     for r in 0..rows {
         let r1 = row_end(wholes, n, r0, r);
         let s = Row { n, b0, r0, r1 };
-        section = mark_row(corners, ends, h, f, pieces, wholes, s, section);
+        section = mark_row(area, g, pieces, wholes, s, section);
         b0 = r0;
         r0 = r1;
     }
@@ -286,18 +258,22 @@ fn mark_rows(
 
 // The marks of all pieces, row by row, of rows that rise; the number of sections. Pieces of later rows get none.
 pub fn mark_all(
-    corners: &[f64],
-    ends: &[usize],
+    outline: Outline,
     f: Fill,
     pieces: &[f64],
     wholes: &mut [usize],
     n: usize,
     rows: usize,
 ) -> usize
-    requires { Layout corners.now ends.now × (3 * n ≤ length pieces.now) × (3 * n ≤ length wholes.old) × (n ≤ 10000000) × (rows ≤ 4096) × All Rise (rows_in pieces.now wholes.old n 0 0 rows) }
-    ensures { Wrote wholes.old wholes.new n (flat_marks (marked_in (rings corners.now ends.now) f.rule f.settings pieces.now wholes.old n rows)) × (result ≡ begun (marked_in (rings corners.now ends.now) f.rule f.settings pieces.now wholes.old n rows)) × (result ≤ n) }
+    requires { (3 * n ≤ length pieces.now) × (3 * n ≤ length wholes.old) × (n ≤ 10000000) × (rows ≤ 4096) × All Rise (rows_in pieces.now wholes.old n 0 0 rows) }
+    ensures { Wrote wholes.old wholes.new n (flat_marks (marked_in (rings_of outline.entry) f.rule f.settings pieces.now wholes.old n rows)) × (result ≡ begun (marked_in (rings_of outline.entry) f.rule f.settings pieces.now wholes.old n rows)) × (result ≤ n) }
 {
     let mut h = [0.0f64; HEIGHTS];
-    heights(corners, ends, &mut h);
-    mark_rows(corners, ends, &h, f, pieces, wholes, n, rows)
+    heights(outline, &mut h);
+    let area = Area {
+        outline,
+        rule: f.rule,
+        heights: &h,
+    };
+    mark_rows(area, f.settings, pieces, wholes, n, rows)
 }

@@ -4,4 +4,4 @@ use Rattle.sections.proofs.link_inside.Goals as goal
 
 pub returns : goal.returns
 unfolding link_inside
-returns c = c.point_inside_by.ensures ∙ rw (c.rotate-q.ensures, c.along.ensures)
+returns c = c.has.ensures ∙ rw (c.rotate-q.ensures, c.along.ensures)

@@ -5,7 +5,7 @@ use lib.Ieee.{Float}
 use Rattle.seqs.specs.Wrote.{Run}
 use Rattle.geom.specs.declared.point.P.{P}
 use Rattle.outlines.specs.declared.rule.FillRule.{FillRule}
-use Rattle.geom.specs.Outline.{rings}
+use Rattle.geom.specs.Rings.{rings_of}
 use Rattle.rules.specs.declared.Settings.{Settings}
 use Rattle.sections.specs.Mark.{row_marks, row_new}
 use Rattle.sections.specs.declared.Row.{Row}
@@ -19,4 +19,4 @@ pub record Inv (rs : List (List P)) (rule : FillRule) (g : Settings) (l : List F
   pub news : row_new rs rule g l w s section j (s.r1 - j) ≡ row_new rs rule g l w s new s.r0 (s.r1 - s.r0)
 
 abbrev pub invariant-loop-j : goal.invariant-loop-j
-invariant-loop-j l = Inv (rings l.corners l.ends) l.f.rule l.f.settings l.pieces l.s l.new l.initial.wholes l.wholes l.j l.section
+invariant-loop-j l = Inv (rings_of l.area.outline) l.area.rule l.g l.pieces l.s l.new l.initial.wholes l.wholes l.j l.section
