@@ -5,7 +5,7 @@ ghost use Rattle.sweep.specs.Swept.{enters, stays, Retained, Admitted, Gathered}
 use crate::key::{Key, sort};
 use edges::Table;
 
-#[derive(Clone, Copy)]
+#[derive(Clone, Copy, Default)]
 pub struct Live {
     pub m: usize,
     pub next: usize,

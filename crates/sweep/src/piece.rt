@@ -34,7 +34,7 @@ pub struct Crossing {
 }
 
 // Where a scan of a row's places stands: crossings passed, the winding number, and where the span began.
-#[derive(Clone, Copy)]
+#[derive(Clone, Copy, Default)]
 pub struct Scan {
     pub at: usize,
     pub w: i64,
@@ -160,11 +160,7 @@ pub fn put_pieces(table: &Table, places: &[usize], c: Cut, floats: &mut [f64], i
     requires { (i ≤ 10000000) × (length places.now ≤ 100000) }
     ensures { Added block_place (span_block c.y) floats.old floats.new i result (cuts c table.now places.now) }
 {
-    let mut s = Scan {
-        at: 0,
-        w: 0,
-        start: 0.0,
-    };
+    let mut s = Scan::default();
     let mut n = i;
     while let Some((p, t)) = next_piece(table, places, c, s) {
         put_piece(floats, 3 * n, c.y, p);

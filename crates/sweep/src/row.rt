@@ -6,7 +6,7 @@ use crate::piece::{Cut, put_pieces, put_rows};
 use edges::Table;
 
 // Between two rows: the stripe's two counts, and how many pieces there are.
-#[derive(Clone, Copy)]
+#[derive(Clone, Copy, Default)]
 pub struct Done {
     pub live: Live,
     pub i: usize,

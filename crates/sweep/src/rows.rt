@@ -7,7 +7,6 @@ ghost use Rattle.sweep.specs.declared.key.Key.TheVariants.{Top, Bottom};
 ghost use Rattle.sweep.specs.Swept.{by, cut_at, numbers, swept, swept_all, Lent, Laid};
 ghost use Rattle.sweep.specs.Laying.{Roomy, Stripe, Written};
 
-use crate::active::Live;
 use crate::piece::Cut;
 use crate::row::{Done, row};
 use crate::waiting::wait;
@@ -43,10 +42,7 @@ fn all_rows(
     requires { Stripe table.now places.old w }
     ensures { Written result (swept upward rule g table.now [] places.old (numbers w upward 0)) floats.old floats.new wholes.old wholes.new }
 {
-    let mut done = Done {
-        live: Live { m: 0, next: 0 },
-        i: 0,
-    };
+    let mut done = Done::default();
     for r in 0..w.n {
         let c = cut_at(rule, g, upward, w, r);
         done = row(table, places, done, upward, c, floats, wholes, r);

@@ -8,7 +8,7 @@ use Rattle.sweep.proofs.piece.put_pieces.Goals as goal
 
 pub loop-p-init : goal.loop-p-init
 unfolding cuts of_bits
-loop-p-init c = (search rules, search rules, search rules, adding_start block_place (span_block c.args.c.y) _ _ _)
+loop-p-init c = let d = c.default-s.ensures in rw (d.0, d.1.0, d.1.1) (search rules, search rules, search rules, adding_start block_place (span_block c.args.c.y) _ _ _)
 
 pub loop-p-smaller : goal.loop-p-smaller
 loop-p-smaller c = omega (arith, c.in-Some.ensures.on, c.in-Some.ensures.within)
