@@ -9,3 +9,4 @@ pub mod Exact
 pub mod LaidLaws
 pub mod Laying
 pub mod LayingLaws
+pub mod Pieces

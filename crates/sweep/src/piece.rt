@@ -1,5 +1,6 @@
 // The pieces of a row, one at a time by value, and put behind the table.
 ghost use Rattle.std.specs.Prelude.{◌≡◌, not, cond, ◌&&◌, ◌+◌, ◌≤◌, ◌<◌, pos, negsuc, nat_abs, length, replicate};
+ghost use Rattle.std.specs.Iterator.{YieldsFirst, item_count};
 ghost use Rattle.seqs.specs.Records.{Added};
 ghost use Rattle.seqs.specs.Slices.{Wrote};
 ghost use Rattle.outlines.specs.Inside.{inside};
@@ -9,6 +10,7 @@ ghost use Rattle.sweep.specs.Swept.{Crossed, joined_to, cut_ends, wide_span, pas
 use edges::Table;
 use leaves::to_bits;
 use outlines::FillRule;
+use std::marker::Model;
 
 // What a row asks of its pieces: how much each end gives way, and the least width.
 #[derive(Clone, Copy)]
@@ -127,7 +129,7 @@ pub fn closes(c: Cut, s: Scan, t: Scan, p: Span) -> bool
 }
 
 // The next kept piece of a row whose crossings, left to right, are places, and the scan behind it.
-pub fn next_piece(table: &Table, places: &[usize], c: Cut, from: Scan) -> Option<(Span, Scan)>
+fn next_piece(table: &Table, places: &[usize], c: Cut, from: Scan) -> Option<(Span, Scan)>
     requires { (length places.now ≤ 100000) × (nat_abs from.w ≤ from.at) × (from.at ≤ length places.now) }
     ensures { Stepped c table.now places.now from result }
 {
@@ -145,6 +147,57 @@ pub fn next_piece(table: &Table, places: &[usize], c: Cut, from: Scan) -> Option
     None
 }
 
+// A row's pieces, left to right: contracts see the list of those that are left.
+#[derive(Drop)]
+pub struct Pieces<'a> {
+    table: &'a Table<'a>,
+    places: &'a [usize],
+    cut: Cut,
+    scan: Scan,
+}
+
+impl<'a> Model for Pieces<'a> {
+    ghost use Rattle.std.specs.Prelude.{List};
+    ghost use Rattle.sweep.specs.declared.piece.Span.{Span};
+
+    ghost Value = { List Span };
+
+    ghost use Rattle.sweep.specs.Pieces.{left, Scanning};
+
+    ghost view = { left };
+
+    ghost invariant = { Scanning };
+}
+
+impl<'a> Pieces<'a> {
+    // Of a row whose crossings, left to right, are places.
+    pub fn new(table: &'a Table<'a>, places: &'a [usize], cut: Cut) -> Self
+        requires { length places.now ≤ 100000 }
+        ensures { result ≡ cuts cut table.now places.now }
+    {
+        Pieces {
+            table,
+            places,
+            cut,
+            scan: Scan::default(),
+        }
+    }
+}
+
+impl<'a> Iterator for Pieces<'a> {
+    type Item = Span;
+
+    ghost next_gives = { YieldsFirst (λ s. s) };
+
+    ghost remaining = { item_count (λ s. s) };
+
+    fn next(&mut self) -> Option<Span> {
+        let (p, t) = next_piece(self.table, self.places, self.cut, self.scan)?;
+        self.scan = t;
+        Some(p)
+    }
+}
+
 // A piece at k, if there is room.
 pub fn put_piece(floats: &mut [f64], k: usize, y: f64, p: Span)
     requires { k ≤ 1000000000 }
@@ -160,12 +213,10 @@ pub fn put_pieces(table: &Table, places: &[usize], c: Cut, floats: &mut [f64], i
     requires { (i ≤ 10000000) × (length places.now ≤ 100000) }
     ensures { Added block_place (span_block c.y) floats.old floats.new i result (cuts c table.now places.now) }
 {
-    let mut s = Scan::default();
     let mut n = i;
-    while let Some((p, t)) = next_piece(table, places, c, s) {
+    for p in Pieces::new(table, places, c) {
         put_piece(floats, 3 * n, c.y, p);
         n += 1;
-        s = t;
     }
     n
 }

@@ -1,26 +1,28 @@
-use mathlib.Core.Path.{refl}
-use native.Mathlib.Omega.{arith}
-use lib.Ieee.{of_bits}
+use Rattle.std.proofs.Common.{refl, arith}
 use Rattle.seqs.specs.Adding.{adding_start, adding_at, adding_step, adding_end, added_one}
-use Rattle.sweep.specs.Swept.{cuts, span_block, block_place}
+use Rattle.sweep.specs.Swept.{span_block, block_place}
 use borrow.Author.Rules.{rules}
+use Rattle.sweep.specs.SweptLaws.{cuts_few}
 use Rattle.sweep.proofs.piece.put_pieces.Goals as goal
 
 pub loop-p-init : goal.loop-p-init
-unfolding cuts of_bits
-loop-p-init c = let d = c.default-s.ensures in rw (d.0, d.1.0, d.1.1) (search rules, search rules, search rules, adding_start block_place (span_block c.args.c.y) _ _ _)
-
-pub loop-p-smaller : goal.loop-p-smaller
-loop-p-smaller c = omega (arith, c.in-Some.ensures.on, c.in-Some.ensures.within)
+loop-p-init c = (search rules, search rules, rw (c.into_iter-p-iterator.ensures.into_iter_gives, c.new-p-items.ensures) (adding_start block_place (span_block c.args.c.y) _ _ _))
 
 pub loop-p-preserved : goal.loop-p-preserved
 loop-p-preserved c =
-    let l = c.loop-p in
-    let m = c.in-Some.ensures in
     let enc = span_block c.args.c.y in
-    (m.within, m.small, omega (arith, m.on), adding_step block_place enc 3 (λ p. refl) (λ n m. omega arith) _ _ (adding_at block_place enc m.is l.invariant.3) (added_one block_place enc 3 (λ p. refl) (λ n m. omega arith) c.put_piece.ensures))
+    (search rules, search rules, adding_step block_place enc 3 (λ p. refl) (λ n m. omega arith) _ _ (adding_at block_place enc c.in-Some.ensures.steps c.loop-p.invariant.2) (added_one block_place enc 3 (λ p. refl) (λ n m. omega arith) c.put_piece.ensures))
+
+pub overflow_mul-n : goal.overflow_mul-n
+overflow_mul-n c = omega (arith, c.loop-p.invariant.2.count, cuts_few c.args.c c.args.table.now c.args.places.now)
+
+pub put_piece-requires : goal.put_piece-requires
+put_piece-requires c = omega (arith, c.loop-p.invariant.2.count, cuts_few c.args.c c.args.table.now c.args.places.now)
+
+pub overflow_add-n : goal.overflow_add-n
+overflow_add-n c = omega (arith, c.loop-p.invariant.2.count, cuts_few c.args.c c.args.table.now c.args.places.now)
 
 pub returns : goal.returns
 returns c =
     let enc = span_block c.args.c.y in
-    adding_end block_place enc (adding_at block_place enc c.in_default.ensures c.loop-p.invariant.3)
+    adding_end block_place enc (adding_at block_place enc c.in-None.ensures.steps.0 c.loop-p.invariant.2)
