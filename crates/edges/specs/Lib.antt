@@ -5,3 +5,5 @@ pub mod Span
 pub mod SpanLaws
 pub mod EdgeCount
 pub mod SideLaws
+pub mod Sides
+pub mod SidesLaws

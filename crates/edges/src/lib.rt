@@ -3,7 +3,9 @@
 
 pub mod rows;
 pub mod side;
+pub mod sides;
 pub mod table;
 
 pub use rows::{Rows, row_at, row_number, rows_of};
+pub use sides::Sides;
 pub use table::{Table, build};

@@ -2,12 +2,14 @@
 ghost use Rattle.std.specs.Prelude.{◌≡◌, ◌<◌};
 ghost use Rattle.seqs.specs.Lists.{fold};
 ghost use Rattle.seqs.specs.Slices.{capped};
-ghost use Rattle.geom.specs.Outline.{points, rings};
+ghost use Rattle.geom.specs.Rings.{rings_of};
 ghost use Rattle.rules.specs.Fill.{how_many, row_at, edges};
-ghost use Rattle.edges.specs.Table.{found, ring_edges, Outline};
+ghost use Rattle.edges.specs.Table.{found};
 ghost use Rattle.edges.specs.Span.{widen, nowhere, rows_of, row_number, Spanned};
 
-use crate::side::side;
+use crate::side::kept_side;
+use crate::sides::Sides;
+use geom::Outline;
 use leaves::{ceil, floor, larger, of_i64, smaller, to_i64};
 use rules::{Edge, Settings};
 
@@ -42,40 +44,16 @@ fn widened(x: Extent, s: Option<Edge>) -> Extent
     }
 }
 
-fn ring_extent(l: &[f64], g: Settings, sofar: Extent) -> Extent
-    ensures { result ≡ fold widen sofar (ring_edges g (points l.now)) }
-{
-    let m = l.len();
-    if m < 6 {
-        return sofar;
-    }
-    let mut x = sofar;
-    let mut i = 0;
-    while i + 1 < m {
-        x = widened(x, side(l, i, g));
-        i += 2;
-    }
-    x
-}
-
-fn extent_of(corners: &[f64], ends: &[usize], g: Settings) -> Extent
-    requires { Outline corners.now ends.now }
-    ensures { result ≡ fold widen nowhere (edges g (rings corners.now ends.now)) }
+fn extent_of(o: Outline, g: Settings) -> Extent
+    ensures { result ≡ fold widen nowhere (edges g (rings_of o.entry)) }
 {
     let mut x = Extent {
         any: false,
         top: f64::INFINITY,
         bottom: f64::NEG_INFINITY,
     };
-    let mut a = 0;
-    let mut k = 0;
-    while k < ends.len() {
-        let e = ends[k];
-        let from = 2 * a;
-        let to = 2 * e;
-        x = ring_extent(&corners[from..to], g, x);
-        a = e;
-        k += 1;
+    for (a, b) in Sides::of(o, g) {
+        x = widened(x, kept_side(a, b));
     }
     x
 }
@@ -91,11 +69,10 @@ fn how_many(lo: i64, hi: i64) -> usize
 }
 
 // The rows of all rings.
-pub fn rows_of(corners: &[f64], ends: &[usize], g: Settings) -> Rows
-    requires { Outline corners.now ends.now }
-    ensures { result ≡ rows_of g (edges g (rings corners.now ends.now)) }
+pub fn rows_of(o: Outline, g: Settings) -> Rows
+    ensures { result ≡ rows_of g (edges g (rings_of o.entry)) }
 {
-    let x = extent_of(corners, ends, g);
+    let x = extent_of(o, g);
     let lo = to_i64(ceil(x.top / g.spacing - 0.5));
     let hi = to_i64(floor(x.bottom / g.spacing - 0.5));
     let n = if x.any { how_many(lo, hi) } else { 0 };

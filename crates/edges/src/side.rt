@@ -3,6 +3,7 @@ ghost use Rattle.std.specs.Prelude.{◌≡◌, ◌+◌, ◌<◌, length};
 ghost use Rattle.rules.specs.Fill.{edge_of, kept_side};
 ghost use Rattle.edges.specs.Table.{corner, following, found};
 
+use crate::sides::turned;
 use geom::P;
 use leaves::magnitude;
 use rules::{Edge, Settings};
@@ -20,7 +21,7 @@ fn edge_of(top: P, bot: P, falls: bool) -> Edge
 }
 
 // A side as an edge, or none where it is dropped.
-fn kept_side(a: P, b: P) -> Option<Edge>
+pub fn kept_side(a: P, b: P) -> Option<Edge>
     ensures { found result ≡ kept_side (a, b) }
 {
     if magnitude(a.y - b.y) < 1e-9 {
@@ -41,7 +42,7 @@ pub fn corner(l: &[f64], i: usize, g: Settings) -> P
         x: l[i],
         y: l[i + 1],
     };
-    p.rotate(g.cosine, -g.sine)
+    turned(g, p)
 }
 
 // Where the next corner stands: after the last comes the first.

@@ -2,12 +2,14 @@
 ghost use Rattle.std.specs.Prelude.{◌≡◌, ◌+◌, ◌*◌, ◌≤◌, List, length, map};
 ghost use Rattle.seqs.specs.Records.{Added};
 ghost use Rattle.seqs.specs.Slices.{Wrote};
-ghost use Rattle.geom.specs.Outline.{points, rings};
+ghost use Rattle.geom.specs.Rings.{rings_of};
 ghost use Rattle.rules.specs.declared.Edge.{Edge};
 ghost use Rattle.rules.specs.Fill.{edge, edges};
-ghost use Rattle.edges.specs.Table.{found, direction, edge_block, block_edge, edge_place, edges_in, ring_edges, Outline};
+ghost use Rattle.edges.specs.Table.{found, direction, edge_block, block_edge, edge_place, edges_in};
 
-use crate::side::side;
+use crate::side::kept_side;
+use crate::sides::Sides;
+use geom::Outline;
 use rules::{Edge, Settings};
 use std::marker::Model;
 
@@ -90,39 +92,14 @@ fn put_side(floats: &mut [f64], n: usize, s: Option<Edge>) -> usize
     n + 1
 }
 
-// The kept edges of one ring, from edge n on.
-fn build_ring(l: &[f64], g: Settings, floats: &mut [f64], n: usize) -> usize
-    requires { n + length l.now ≤ 10000 }
-    ensures { Added edge_place edge_block floats.old floats.new n result (ring_edges g (points l.now)) }
-{
-    let m = l.len();
-    if m < 6 {
-        return n;
-    }
-    let mut e = n;
-    let mut i = 0;
-    while i + 1 < m {
-        e = put_side(floats, e, side(l, i, g));
-        i += 2;
-    }
-    e
-}
-
 // The kept edges of all rings: how many. They are written as far as there is room.
-pub fn build(corners: &[f64], ends: &[usize], g: Settings, floats: &mut [f64]) -> usize
-    requires { Outline corners.now ends.now }
-    ensures { Added edge_place edge_block floats.old floats.new 0 result (edges g (rings corners.now ends.now)) }
+pub fn build(o: Outline, g: Settings, floats: &mut [f64]) -> usize
+    requires { length o.corners.now ≤ 2048 }
+    ensures { Added edge_place edge_block floats.old floats.new 0 result (edges g (rings_of o.entry)) }
 {
-    let mut a = 0;
     let mut n = 0;
-    let mut k = 0;
-    while k < ends.len() {
-        let e = ends[k];
-        let from = 2 * a;
-        let to = 2 * e;
-        n = build_ring(&corners[from..to], g, floats, n);
-        a = e;
-        k += 1;
+    for (a, b) in Sides::of(o, g) {
+        n = put_side(floats, n, kept_side(a, b));
     }
     n
 }

@@ -1,71 +1,23 @@
-use mathlib.Core.Path.{refl}
-use Prim.Native.Nat.{◌-◌, ◌*◌, ◌/◌}
-use native.Mathlib.Omega.{arith}
-use lib.ListN.{length, take, drop, get_or, length-take, length-drop}
-use Rattle.seqs.specs.Adding.{adding_start, adding_at, adding_step, adding_end}
-use Rattle.geom.specs.OutlineLaws.{rising_turn}
+use Rattle.std.proofs.Common.{refl, arith}
+use Rattle.seqs.specs.Lists.{each}
+use Rattle.seqs.specs.Adding.{adding_start, adding_step, adding_end}
+use Rattle.geom.specs.Rings.{rings_of}
+use Rattle.rules.specs.Fill.{kept_side}
 use Rattle.edges.specs.Table.{edge_block, edge_place}
-use Rattle.edges.specs.EdgeCount.{flat_few}
-use Rattle.edges.specs.SideLaws.{rest_all, rest_next, rest_none}
-use borrow.Author.Rules.{rules}
+use Rattle.edges.specs.EdgeCount.{outline_few}
+use Rattle.edges.specs.SidesLaws.{edges_kept}
 use Rattle.edges.proofs.table.build.Goals as goal
 
-pub loop-k-init : goal.loop-k-init
-loop-k-init c = let a = c.args in (search rules, search rules, c.requires.layout.rise, rw (rest_all a.g a.corners.now a.ends.now) (adding_start edge_place edge_block _ _ _))
+pub loop-a-init : goal.loop-a-init
+loop-a-init c = (tt, tt, rw (c.into_iter-a-iterator.ensures.into_iter_gives, c.of-a-items.ensures, edges_kept c.args.g (rings_of c.args.o)) (adding_start edge_place edge_block _ _ _))
 
-pub overflow_mul-from : goal.overflow_mul-from
-overflow_mul-from c =
-    let l = c.loop-k in
-    let t = rising_turn l.a c.args.ends.now l.k (length c.args.corners.now / 2) l.invariant.2 c.loop-k-test.true in
-    omega (arith, t, c.requires)
+pub put_side-n-requires : goal.put_side-n-requires
+put_side-n-requires c = let o = c.args.o in omega (arith, c.loop-a.invariant.2.count, outline_few c.args.g o.corners.now o.ends.now o.laid)
 
-pub overflow_mul-to : goal.overflow_mul-to
-overflow_mul-to c =
-    let l = c.loop-k in
-    let t = rising_turn l.a c.args.ends.now l.k (length c.args.corners.now / 2) l.invariant.2 c.loop-k-test.true in
-    omega (arith, t, c.requires)
-
-pub offset_bounds-corners-from : goal.offset_bounds-corners-from
-offset_bounds-corners-from c =
-    let l = c.loop-k in
-    let t = rising_turn l.a c.args.ends.now l.k (length c.args.corners.now / 2) l.invariant.2 c.loop-k-test.true in
-    omega (arith, t, c.requires)
-
-pub slice_bounds-build_ring-count : goal.slice_bounds-build_ring-count
-slice_bounds-build_ring-count c =
-    let l = c.loop-k in
-    let t = rising_turn l.a c.args.ends.now l.k (length c.args.corners.now / 2) l.invariant.2 c.loop-k-test.true in
-    omega (arith, t, c.requires)
-
-pub slice_bounds-build_ring-start : goal.slice_bounds-build_ring-start
-slice_bounds-build_ring-start c =
-    let l = c.loop-k in
-    let t = rising_turn l.a c.args.ends.now l.k (length c.args.corners.now / 2) l.invariant.2 c.loop-k-test.true in
-    omega (arith, t, c.requires)
-
-pub slice_bounds-build_ring-end : goal.slice_bounds-build_ring-end
-slice_bounds-build_ring-end c =
-    let l = c.loop-k in
-    let t = rising_turn l.a c.args.ends.now l.k (length c.args.corners.now / 2) l.invariant.2 c.loop-k-test.true in
-    omega (arith, t, c.requires)
-
-pub build_ring-n-requires : goal.build_ring-n-requires
-build_ring-n-requires c =
-    let l = c.loop-k in
-    let t = rising_turn l.a c.args.ends.now l.k (length c.args.corners.now / 2) l.invariant.2 c.loop-k-test.true in
-    simp (length-take, length-drop) (omega (arith, t, c.requires))
-
-pub loop-k-preserved : goal.loop-k-preserved
-loop-k-preserved c =
-    let l = c.loop-k in
-    let a = c.args in
-    let t = rising_turn l.a a.ends.now l.k (length a.corners.now / 2) l.invariant.2 c.loop-k-test.true in
-    let r = c.build_ring-n.ensures in
-    let few = simp (length-take, length-drop) at (flat_few a.g (take (2 * get_or a.ends.now l.k 0 - 2 * l.a) (drop (2 * l.a) a.corners.now))) in
-    (search rules, omega (arith, r.count, t), t.rise, adding_step edge_place edge_block 5 (λ e. refl) (λ n m. omega arith) _ _ (adding_at edge_place edge_block (rest_next a.g l.a a.ends.now l.k a.corners.now c.loop-k-test.true) l.invariant.3) r)
+pub loop-a-preserved : goal.loop-a-preserved
+loop-a-preserved c =
+    let r = rw c.in-Some.ensures.steps at c.loop-a.invariant.2 in
+    (tt, tt, adding_step edge_place edge_block 5 (λ e. refl) (λ n m. omega arith) (kept_side (c.in-Some.a, c.in-Some.b)) (each kept_side c.next.new.self) r (rw c.kept_side.ensures at c.put_side-n.ensures))
 
 pub returns : goal.returns
-returns c =
-    let l = c.loop-k in
-    let a = c.args in
-    adding_end edge_place edge_block (adding_at edge_place edge_block (rest_none a.g l.a a.ends.now l.k a.corners.now (search rules)) l.invariant.3)
+returns c = adding_end edge_place edge_block (rw c.in-None.ensures.steps.0 at c.loop-a.invariant.2)
