@@ -1,8 +1,7 @@
 -- Document 01's answer of `running`, its checks in the table's order. Definitions only.
 use Rattle.std.specs.Prelude.{ℕ, Bool, List, length, Float}
 use Rattle.refusal.specs.Refusal.{SETTING, unless, ◌then◌}
-use Rattle.refusal.specs.Sewn.{sewn, output}
-use Rattle.refusal.specs.declared.Sewn.{Sewn}
+use Rattle.refusal.specs.Sewn.{Sewn, sewn, output}
 use Rattle.geom.specs.Outline.{points}
 use Rattle.limits.specs.Limits.{good_len, good_passes}
 use Rattle.geom.specs.Sewing.{flat, fitted}

@@ -1,5 +1,5 @@
 -- `put_pass` meets its contract: the points of the pass from r on are to be written from `at` on. Assumes nothing.
-use Prim.Native.Nat.{◌-◌, ◌≤◌}
+use Prim.Native.Nat.{◌≤◌}
 use mathlib.Core.List.{◌++◌}
 use lib.ListN.{take, drop}
 use Rattle.seqs.specs.Front.{Front}

@@ -1,5 +1,8 @@
 -- `running` meets its contract: what is counted up to the room is what the room is compared with. Assumes nothing.
-use mathlib.Core.Path.{refl}
+use mathlib.Core.Path.{refl, ap}
+use Prim.Native.Nat.{ℕ}
+use Rattle.std.specs.Prelude.{Ok}
+use Rattle.refusal.specs.Sewn.{said_sewn}
 use native.Mathlib.Omega.{arith}
 use lib.ListN.{length}
 use Rattle.geom.specs.Outline.{points}
@@ -42,4 +45,4 @@ returns c =
     let o = length a.out.now in
     let n = counted (one_pass l a.closed a.len) o c.count_one-n.ensures c.if-n-room.false in
     let e = all_counted l a.closed a.len a.passes _ n c.count_passes-points.ensures in
-    rw (is_fitted m o e c.if-points-room.false) (rw (counted m o e c.if-points-room.false), running_put l a.closed a.len a.passes a.out.now _ _ c.put_one.ensures n (fits m o e c.if-points-room.false) _ c.put_passes.ensures)
+    rw (is_fitted m o e c.if-points-room.false) (ap (λ (b : ℕ). said_sewn (Ok b)) (counted m o e c.if-points-room.false), running_put l a.closed a.len a.passes a.out.now _ _ c.put_one.ensures n (fits m o e c.if-points-room.false) _ c.put_passes.ensures)
