@@ -3,7 +3,7 @@ use mathlib.Core.Path.{◌≡◌, refl, sym, ap, ◌∙◌}
 use Prim.Native.Nat.{ℕ, ◌+◌, ◌*◌, ◌/◌, ◌≤◌, ◌<◌}
 use native.Mathlib.Omega.{arith}
 use lib.ListN.{length}
-use borrow.Author.Tests.{eq-eqb, ne_eqb, le-leb, lt-leb}
+use borrow.Author.Tests.{le-leb, lt-leb}
 use Rattle.std.specs.Prelude.{Ok}
 use Rattle.refusal.specs.Sewn.{said_written}
 use Rattle.seqs.specs.Capped.{capped_exact, capped_past}
@@ -13,16 +13,8 @@ use Rattle.dst.specs.ThreadLaws.{bytes_length}
 use Rattle.dst.specs.Answers.{dst_refusal, dst_written, dst_output}
 use Rattle.dst.proofs.dst.Goals as goal
 
-pub returns-then-points-ne0 : goal.returns-then-points-ne0
-unfolding dst_refusal dst_written dst_output
-returns-then-points-ne0 c = rw (ne_eqb _ 0 c.if-points-ne0.true) (refl, refl)
-
-pub returns-then-not-good_numbers : goal.returns-then-not-good_numbers
-unfolding dst_refusal dst_written dst_output
-returns-then-not-good_numbers c = rw (eq-eqb _ 0 c.if-points-ne0.false, sym c.good_numbers.ensures ∙ c.if-not-good_numbers.true) (refl, refl)
-
 pub count-n-requires : goal.count-n-requires
-count-n-requires c = (sym c.good_numbers.ensures ∙ c.if-not-good_numbers.false, omega arith)
+count-n-requires c = (sym c.good_numbers.ensures ∙ c.in_ok-unless-2.ensures, omega arith)
 
 pub returns-then-n-room : goal.returns-then-n-room
 unfolding dst_refusal dst_written dst_output
@@ -30,13 +22,13 @@ returns-then-n-room c =
     let a = c.args in
     let ps = points a.points.now in
     let h : length a.out.now < length (dst_bytes ps) = omega (arith, bytes_length ps, capped_past (length a.out.now / 3) (1 + length (thread origin ps)) c.count-n.ensures c.if-n-room.true) in
-    rw (eq-eqb _ 0 c.if-points-ne0.false, sym c.good_numbers.ensures ∙ c.if-not-good_numbers.false, lt-leb (length (dst_bytes ps)) (length a.out.now) h) (refl, refl)
+    rw (c.in_ok-unless.ensures, sym c.good_numbers.ensures ∙ c.in_ok-unless-2.ensures, lt-leb (length (dst_bytes ps)) (length a.out.now) h) (refl, refl)
 
 pub write-requires : goal.write-requires
 write-requires c =
     let a = c.args in
     let ps = points a.points.now in
-    (sym c.good_numbers.ensures ∙ c.if-not-good_numbers.false, omega (arith, bytes_length ps, c.if-n-room.false, capped_exact (length a.out.now / 3) (1 + length (thread origin ps)) c.count-n.ensures c.if-n-room.false))
+    (sym c.good_numbers.ensures ∙ c.in_ok-unless-2.ensures, omega (arith, bytes_length ps, c.if-n-room.false, capped_exact (length a.out.now / 3) (1 + length (thread origin ps)) c.count-n.ensures c.if-n-room.false))
 
 pub returns : goal.returns
 unfolding dst_refusal dst_written dst_output
@@ -46,4 +38,4 @@ returns c =
     let n = capped_exact (length a.out.now / 3) (1 + length (thread origin ps)) c.count-n.ensures c.if-n-room.false in
     let e : 3 * c.count-n.result ≡ length (dst_bytes ps) = omega (arith, bytes_length ps, n) in
     let h : length (dst_bytes ps) ≤ length a.out.now = omega (arith, e, c.if-n-room.false) in
-    rw (eq-eqb _ 0 c.if-points-ne0.false, sym c.good_numbers.ensures ∙ c.if-not-good_numbers.false, le-leb (length (dst_bytes ps)) (length a.out.now) h) (ap (λ (b : ℕ). said_written (Ok b)) e, c.write.ensures)
+    rw (c.in_ok-unless.ensures, sym c.good_numbers.ensures ∙ c.in_ok-unless-2.ensures, le-leb (length (dst_bytes ps)) (length a.out.now) h) (ap (λ (b : ℕ). said_written (Ok b)) e, c.write.ensures)
