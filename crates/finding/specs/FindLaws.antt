@@ -28,6 +28,10 @@ use Rattle.sweep.specs.LaidLaws.{laid_count, counts_length, wrote_there}
 use Rattle.finding.specs.declared.Plan.{Plan}
 use Rattle.finding.specs.Stages.{Passed, alone, short, Holds}
 
+-- what a plan holds
+pub passed : (t : Plan) → Passed t.outline.corners.now t.outline.ends.now t
+passed t = record { accepted = t.accepted; rows = t.spanned }
+
 take_front : {A : Type 0} (m l d : List A) (n : ℕ) → length m ≡ n → d ≡ m ++ l → take n d ≡ m
 take_front m l d n h e = ap (take n) e ∙ take_at m l n h
 

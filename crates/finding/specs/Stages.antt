@@ -1,23 +1,37 @@
 -- What the gate and the finding of the pieces hand on. Definitions only.
-use Rattle.std.specs.Prelude.{ℕ, ◌*◌, ◌≤◌, ◌≡◌, Bool, true, ◌||◌, List, map, ltb, length, drop, replicate, Float}
-use Rattle.refusal.specs.Refusal.{DONE}
+use Rattle.std.specs.Prelude.{ℕ, ◌*◌, ◌≤◌, ◌≡◌, Bool, true, ◌||◌, List, map, ltb, length, drop, replicate, Float, Result, Ok, Err}
+use Rattle.refusal.specs.declared.Refusal.{Refusal}
+use Rattle.refusal.specs.declared.Refusal.TheVariants.{Work}
+use Rattle.refusal.specs.Refusal.{DONE, number}
 use Rattle.geom.specs.Outline.{rings}
 use Rattle.rules.specs.declared.Settings.{Settings}
 use Rattle.rules.specs.declared.Piece.{Piece}
 use Rattle.rules.specs.Fill.{edges, row_numbers, pieces_of, met, row_list, gate, need_floats, need_wholes}
 use Rattle.rules.specs.Accepted.{Accepted}
+use Rattle.edges.specs.declared.rows.Rows.{Rows}
 use Rattle.edges.specs.Span.{rows_of}
+use Rattle.outlines.specs.declared.rule.FillRule.{FillRule}
 use Rattle.sections.specs.Mark.{Laid}
-use Rattle.finding.specs.declared.gate.Way.{Way}
-use Rattle.finding.specs.declared.gate.Way.TheVariants.{Refused, Open}
 use Rattle.finding.specs.declared.Plan.{Plan}
 use Rattle.finding.specs.declared.find.Found.{Found}
-use Rattle.finding.specs.declared.find.Found.TheVariants.{Short, Held}
 
 -- the gate: one of 1 to 5, or the rows of an accepted fill
-unfoldable pub Gated : List Float → List ℕ → Settings → ℕ → Way → Type 0
-Gated corners ends g stagger (Refused n) = (gate corners ends g stagger DONE ≡ n) × (1 ≤ n) × (n ≤ 5)
-Gated corners ends g stagger (Open w) = Accepted corners ends g stagger × (w ≡ rows_of g (edges g (rings corners ends)))
+unfoldable pub Gated : List Float → List ℕ → Settings → ℕ → Result Rows Refusal → Type 0
+Gated corners ends g stagger (Err e) = (gate corners ends g stagger DONE ≡ number e) × (1 ≤ number e) × (number e ≤ 5)
+Gated corners ends g stagger (Ok w) = Accepted corners ends g stagger × (w ≡ rows_of g (edges g (rings corners ends)))
+
+-- and the plan of a fill that passes it
+pub record Plans (corners : List Float) (ends : List ℕ) (rule : FillRule) (g : Settings) (stagger : ℕ) (upward : Bool) (t : Plan) : Type 0 where
+  pub corners_are : t.outline.corners.now ≡ corners
+  pub ends_are : t.outline.ends.now ≡ ends
+  pub ruled : t.rule ≡ rule
+  pub set : t.g ≡ g
+  pub staggered : t.stagger ≡ stagger
+  pub up : t.upward ≡ upward
+
+unfoldable pub Planned : List Float → List ℕ → FillRule → Settings → ℕ → Bool → Result Plan Refusal → Type 0
+Planned corners ends rule g stagger upward (Err e) = (gate corners ends g stagger DONE ≡ number e) × (1 ≤ number e) × (number e ≤ 5)
+Planned corners ends rule g stagger upward (Ok t) = Plans corners ends rule g stagger upward t
 
 -- a plan that has passed it
 pub record Passed (corners : List Float) (ends : List ℕ) (t : Plan) : Type 0 where
@@ -43,11 +57,11 @@ pub record Holds (corners : List Float) (ends : List ℕ) (t : Plan) (e i : ℕ)
   pub wholes : need_wholes e i ≤ length a
   pub laid : Laid (alone corners ends t) (drop (6 * e) d) (drop (4 * e) a) i
 
-abbrev pub Finding : List Float → List ℕ → Plan → List Float → List ℕ → Found → Type 0
-Finding corners ends t floats wholes Short = short corners ends t (length floats) (length wholes) ≡ true
-Finding corners ends t floats wholes (Held e i) = Holds corners ends t e i floats wholes
+abbrev pub Finding : List Float → List ℕ → Plan → List Float → List ℕ → Result Found Refusal → Type 0
+Finding corners ends t floats wholes (Err e) = (e ≡ Work) × (short corners ends t (length floats) (length wholes) ≡ true)
+Finding corners ends t floats wholes (Ok f) = Holds corners ends t f.edges f.pieces floats wholes
 
-pub record FoundIn (corners : List Float) (ends : List ℕ) (t : Plan) (floats : List Float) (wholes : List ℕ) (r : Found) : Type 0 where
+pub record FoundIn (corners : List Float) (ends : List ℕ) (t : Plan) (floats : List Float) (wholes : List ℕ) (r : Result Found Refusal) : Type 0 where
   pub is : Finding corners ends t floats wholes r
 
 -- d' is d made all zero

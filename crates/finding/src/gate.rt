@@ -1,59 +1,70 @@
 // Checks 1 to 5, which look at no slice but the outline.
 ghost use Rattle.std.specs.Prelude.{◌≡◌};
 ghost use Rattle.rules.specs.Fill.{good_settings};
-ghost use Rattle.finding.specs.Stages.{Gated};
+ghost use Rattle.finding.specs.Stages.{Gated, Planned};
 
+use crate::Plan;
 use edges::{Rows, rows_of};
+use geom::Outline;
 use limits::{
-    MOST_ROWS, good_inset, good_len, good_numbers, good_outline, good_spacing, good_stagger,
-    good_turn,
+    MOST_ROWS, good_inset, good_len, good_numbers, good_spacing, good_stagger, good_turn, outline,
 };
-use refusal::{LAYOUT, NUMBER, SETTING, SIZE, TURN};
+use outlines::FillRule;
+use refusal::Refusal;
 use rules::Settings;
 
-// One of 1 to 5, or the rows of an accepted fill.
-#[derive(Clone, Copy)]
-pub enum Way {
-    Refused(u64),
-    Open(Rows),
-}
-
+#[tactic(auto, unfolding(rules::specs::Fill::good_settings))]
 fn good_settings(g: Settings, stagger: u64) -> bool
     ensures { result ≡ good_settings g stagger }
 {
-    if !good_spacing(g.spacing) {
-        return false;
-    }
-    if !good_len(g.len) {
-        return false;
-    }
-    if !good_inset(g.inset) {
-        return false;
-    }
-    if !good_inset(g.pull) {
-        return false;
-    }
-    good_stagger(stagger)
+    good_spacing(g.spacing)
+        && good_len(g.len)
+        && good_inset(g.inset)
+        && good_inset(g.pull)
+        && good_stagger(stagger)
 }
 
-pub fn gate(corners: &[f64], ends: &[usize], g: Settings, stagger: u64) -> Way
+// The rows of an accepted fill.
+#[tactic(auto, unfolding(crate::specs::Stages::Gated, rules::specs::Fill::gate))]
+pub fn gate(corners: &[f64], ends: &[usize], g: Settings, stagger: u64) -> Result<Rows, Refusal>
     ensures { Gated corners.now ends.now g stagger result }
 {
-    if !good_outline(corners, ends) {
-        return Way::Refused(LAYOUT);
-    }
+    let o = outline(corners, ends)?;
     if !good_numbers(corners) {
-        return Way::Refused(NUMBER);
+        return Err(Refusal::Number);
     }
     if !good_settings(g, stagger) {
-        return Way::Refused(SETTING);
+        return Err(Refusal::Setting);
     }
     if !good_turn(g.cosine, g.sine) {
-        return Way::Refused(TURN);
+        return Err(Refusal::Turn);
     }
-    let w = rows_of(corners, ends, g);
+    let w = rows_of(o.corners, o.ends, g);
     if w.n > MOST_ROWS {
-        return Way::Refused(SIZE);
+        return Err(Refusal::Size);
     }
-    Way::Open(w)
+    Ok(w)
+}
+
+// A fill that has passed the gate.
+#[tactic(auto, unfolding(crate::specs::Stages::Gated, crate::specs::Stages::Planned))]
+pub fn plan<'a>(
+    corners: &'a [f64],
+    ends: &'a [usize],
+    rule: FillRule,
+    g: Settings,
+    stagger: u64,
+    upward: bool,
+) -> Result<Plan<'a>, Refusal>
+    ensures { Planned corners.now ends.now rule g stagger upward result }
+{
+    let rows = gate(corners, ends, g, stagger)?;
+    Ok(Plan {
+        outline: Outline { corners, ends },
+        rule,
+        g,
+        stagger,
+        upward,
+        rows,
+    })
 }

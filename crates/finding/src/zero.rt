@@ -5,19 +5,11 @@ ghost use Rattle.finding.specs.Stages.{Zeroed};
 pub fn zero_floats(l: &mut [f64])
     ensures { Zeroed zero64 l.old l.new }
 {
-    let mut i = 0;
-    while i < l.len() {
-        l[i] = 0.0;
-        i += 1;
-    }
+    l.fill(0.0);
 }
 
 pub fn zero_wholes(l: &mut [usize])
     ensures { Zeroed 0 l.old l.new }
 {
-    let mut i = 0;
-    while i < l.len() {
-        l[i] = 0;
-        i += 1;
-    }
+    l.fill(0);
 }
