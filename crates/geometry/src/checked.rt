@@ -82,10 +82,10 @@ pub fn inside(rule: FillRule, winding: i64) -> Result<bool, Refusal>
 pub fn winding(corners: &[f64], ends: &[usize], p: P) -> Result<i64, Refusal>
     ensures { said result ≡ winding_answer corners.now ends.now p }
 {
-    let o = outline(corners, ends)?;
+    let rings = outline(corners, ends)?;
     unless(Refusal::Number, good_numbers(corners))?;
     unless(Refusal::Number, good_point(p))?;
-    Ok(Area::of(o, FillRule::NonZero).winding(p))
+    Ok(Area::of(rings, FillRule::NonZero).winding(p))
 }
 
 pub fn point_inside(corners: &[f64], ends: &[usize], rule: FillRule, p: P) -> Result<bool, Refusal>

@@ -1,5 +1,7 @@
 -- `resample_keep_corners` meets its contract: what is counted up to the room is what the room is compared with. Assumes nothing.
-use mathlib.Core.Path.{refl}
+use mathlib.Core.Path.{refl, ap}
+use Prim.Native.Nat.{ℕ}
+use Rattle.refusal.specs.Refusal.{DONE}
 use native.Mathlib.Omega.{arith}
 use lib.ListN.{length}
 use Rattle.geom.specs.Outline.{points}
@@ -21,4 +23,4 @@ pub returns : goal.returns
 returns c =
     let a = c.args in
     let m = resample_keep_corners (points a.line.now) a.len in
-    rw (is_fitted m (length a.out.now) c.count_line-points.ensures c.if-points-room.false) (rw (counted m (length a.out.now) c.count_line-points.ensures c.if-points-room.false), c.put_line.ensures.0)
+    rw (is_fitted m (length a.out.now) c.count_line-points.ensures c.if-points-room.false) (ap (λ (n : ℕ). record { answer = DONE; points = n }) (counted m (length a.out.now) c.count_line-points.ensures c.if-points-room.false), c.put_line.ensures.0)
