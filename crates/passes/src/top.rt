@@ -10,7 +10,7 @@ use crate::threads::pair_in;
 use geom::P;
 use geom::sewing::{add_within, corner, put_point};
 use pairing::store::put_pair;
-use satinrules::{Pair, Satin, Split, Style};
+use satinrules::{Pair, Satin, Style};
 use styles::bent::{count_bent, put_bent};
 use styles::split::{count_split, put_split};
 
@@ -114,18 +114,18 @@ fn count_all(line: &[f64], room: u64) -> u64
     add_within((line.len() / 2) as u64, 0, room)
 }
 
-fn count_plain(line: &[f64], split: Split, room: u64) -> u64
+fn count_plain(line: &[f64], split: Option<f64>, room: u64) -> u64
     requires { room < 2 ^ 63 }
     ensures { result ≡ capped room (length (split_by split (points line.now))) }
 {
     match split {
-        Split::Absent => count_all(line, room),
-        Split::Length(max) => count_split(line, max, room),
+        None => count_all(line, room),
+        Some(max) => count_split(line, max, room),
     }
 }
 
 // How many points the style makes of a path, or room + 1 where they pass the room.
-pub fn count_styled(line: &[f64], split: Split, style: Style, room: u64) -> u64
+pub fn count_styled(line: &[f64], split: Option<f64>, style: Style, room: u64) -> u64
     requires { room < 2 ^ 63 }
     ensures { result ≡ capped room (length (styled split style (points line.now))) }
 {
@@ -146,18 +146,18 @@ fn put_all(out: &mut [f64], k: usize, line: &[f64]) -> usize
     k + end
 }
 
-fn put_plain(out: &mut [f64], k: usize, line: &[f64], split: Split) -> usize
+fn put_plain(out: &mut [f64], k: usize, line: &[f64], split: Option<f64>) -> usize
     requires { k + length (flat (split_by split (points line.now))) ≤ length out.old }
     ensures { (out.new ≡ put out.old k (flat (split_by split (points line.now)))) × (result ≡ k + length (flat (split_by split (points line.now)))) }
 {
     match split {
-        Split::Absent => put_all(out, k, line),
-        Split::Length(max) => put_split(out, k, line, max),
+        None => put_all(out, k, line),
+        Some(max) => put_split(out, k, line, max),
     }
 }
 
 // What the style makes of a path, from k on; answers the place after it.
-pub fn put_styled(out: &mut [f64], k: usize, line: &[f64], split: Split, style: Style) -> usize
+pub fn put_styled(out: &mut [f64], k: usize, line: &[f64], split: Option<f64>, style: Style) -> usize
     requires { k + length (flat (styled split style (points line.now))) ≤ length out.old }
     ensures { (out.new ≡ put out.old k (flat (styled split style (points line.now)))) × (result ≡ k + length (flat (styled split style (points line.now)))) }
 {

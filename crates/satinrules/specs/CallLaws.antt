@@ -1,5 +1,5 @@
 -- What is proved of the calls' answers once the checks in front are through, and of rails of too few corners. Assumes nothing.
-use Rattle.std.specs.Prelude.{ℕ, ◌≤◌, ◌<◌, ◌≡◌, refl, Bool, true, not, leb, Float}
+use Rattle.std.specs.Prelude.{ℕ, ◌≤◌, ◌<◌, ◌≡◌, refl, Bool, true, not, leb, Option, None, Some, Float}
 use Rattle.std.proofs.Common.{arith, ◌∙◌, inl, inr}
 use Rattle.std.proofs.Math.Path.{ap}
 use Rattle.std.proofs.Math.Bool.{false}
@@ -11,8 +11,6 @@ use Rattle.geom.specs.declared.point.P.{P}
 use Rattle.geom.specs.Sewing.{fitted}
 use Rattle.satinrules.specs.declared.Pair.{Pair}
 use Rattle.satinrules.specs.declared.Satin.{Satin}
-use Rattle.satinrules.specs.declared.Split.{Split}
-use Rattle.satinrules.specs.declared.Split.TheVariants.{Absent, Length}
 use Rattle.satinrules.specs.declared.Style.{Style}
 use Rattle.satinrules.specs.declared.Style.TheVariants.{Plain, SStitch, Zigzag}
 use Rattle.satinrules.specs.Settings.{zigzag_underlay_spacing}
@@ -71,14 +69,14 @@ only_none : (b : Bool) → only_if {A = P} b [] ≡ []
 only_none true = refl
 only_none false = refl
 
-styled_none : (s : Split) (t : Style) → styled s t [] ≡ []
+styled_none : (s : Option Float) (t : Style) → styled s t [] ≡ []
 unfolding styled split_by split_long s_stitch sides
-styled_none Absent Plain = refl
-styled_none (Length max) Plain = refl
-styled_none Absent SStitch = refl
-styled_none (Length max) SStitch = refl
-styled_none Absent Zigzag = refl
-styled_none (Length max) Zigzag = refl
+styled_none None Plain = refl
+styled_none (Some max) Plain = refl
+styled_none None SStitch = refl
+styled_none (Some max) SStitch = refl
+styled_none None Zigzag = refl
+styled_none (Some max) Zigzag = refl
 
 module _ (r : Rails) (g : Satin) (e : few r ≡ true) where
   no_pairs : (s : Float) → pairs r s ≡ []

@@ -1,5 +1,5 @@
 -- A satin column: underlay passes, then the top, as satin.rs sews it. Definitions only.
-use Rattle.std.specs.Prelude.{ℕ, zero, suc, ◌+◌, ◌-◌, ◌/◌, ◌%◌, Bool, true, false, not, ◌&&◌, cond, List, [], ◌∷◌, ◌++◌, map, reverse, eqb, pos, Float}
+use Rattle.std.specs.Prelude.{ℕ, zero, suc, ◌+◌, ◌-◌, ◌/◌, ◌%◌, Bool, true, false, not, ◌&&◌, cond, Option, None, Some, List, [], ◌∷◌, ◌++◌, map, reverse, eqb, pos, Float}
 use Rattle.std.specs.Float.Ieee.{neg, lt, to_unsigned}
 use Rattle.numbers.specs.Num.{◌⊕◌, ◌⊗◌, ◌⊘◌, real, literal, half, zero64}
 use Rattle.numbers.specs.Whole.{ceil}
@@ -8,8 +8,6 @@ use Rattle.geom.specs.declared.point.P.{P}
 use Rattle.geom.specs.Point.{plus, minus, times, len, dist, norm, perp, lerp, one}
 use Rattle.satinrules.specs.declared.Pair.{Pair}
 use Rattle.satinrules.specs.declared.Satin.{Satin}
-use Rattle.satinrules.specs.declared.Split.{Split}
-use Rattle.satinrules.specs.declared.Split.TheVariants.{Absent, Length}
 use Rattle.satinrules.specs.declared.Style.{Style}
 use Rattle.satinrules.specs.declared.Style.TheVariants.{Plain, SStitch, Zigzag}
 use Rattle.satinrules.specs.Settings.{short_dist, short_inset, underlay_inset, zigzag_underlay_spacing}
@@ -160,11 +158,11 @@ spaced Zigzag spacing = spacing ⊗ literal 3 1
 abbrev pub spacing_of : Satin → Float
 spacing_of g = spaced g.style g.spacing
 
-unfoldable pub split_by : Split → List P → List P
-split_by Absent ps = ps
-split_by (Length max) ps = split_long ps max
+unfoldable pub split_by : Option Float → List P → List P
+split_by None ps = ps
+split_by (Some max) ps = split_long ps max
 
-unfoldable pub styled : Split → Style → List P → List P
+unfoldable pub styled : Option Float → Style → List P → List P
 styled s Plain ps = split_by s ps
 styled s SStitch ps = s_stitch ps
 styled s Zigzag ps = ps

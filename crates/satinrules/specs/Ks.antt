@@ -10,7 +10,6 @@ use Rattle.geom.specs.Point.{point, len, dist, norm, lerp, tiny}
 use Rattle.geom.specs.Steps.{steps}
 use Rattle.polyline.specs.Line.{length_from, polyline_length, shortest}
 use Rattle.satinrules.specs.declared.Pair.{Pair}
-use Rattle.satinrules.specs.declared.Split.TheVariants.{Absent, Length}
 use Rattle.satinrules.specs.declared.Style.TheVariants.{Plain}
 use Rattle.satinrules.specs.Settings.{short_dist, short_inset, underlay_inset, zigzag_underlay_spacing}
 use Rattle.satinrules.specs.Arc.{lengths_from, lengths, clamp, partition_point, side_end, fraction, on_side, at, rail_at}
@@ -40,19 +39,19 @@ unfolding add sub mul div neg lt le eq of_int round to_unsigned is_nan literal n
 k11 = refl
 
 -- all three underlays, then a top split at 2: 3 + 6 + 2 + 18 points
-pub all_passes : length (column rails (record { spacing = n 5; pull = n 1; underlay = 7; run_len = n 5; short_stitches = true; split = Length (n 2); style = Plain })) ≡ 29
+pub all_passes : length (column rails (record { spacing = n 5; pull = n 1; underlay = 7; run_len = n 5; short_stitches = true; split = Some (n 2); style = Plain })) ≡ 29
 unfolding add sub mul div neg lt le eq of_int round to_unsigned is_nan literal negative before smaller larger whole_of ceil isqrt near_root root_units root len dist norm lerp tiny steps length_from polyline_length shortest lengths_from lengths clamp partition_point side_end fraction on_side at rail_at ends_of grows kept centre centres_from total_of count_of place_at in_window windows places few pair_at pairs short_dist short_inset underlay_inset zigzag_underlay_spacing inset middle alternate centre_pass contour_pass zigzag_pass after_centre after_zigzag underlay far_end widened crowded pulled stitch stitches_from stitches sides_from sides stagger parts_of part_end parts_from split_side bend bends s_side split_long spaced split_by styled top column
 all_passes = refl
 
 -- where the thread ends after each underlay from 0 to 7: centre and zigzag turn the travelling end, contour doesn't
-pub far_ends : map (λ u. far_end rails (record { spacing = n 5; pull = n 1; underlay = u; run_len = n 5; short_stitches = true; split = Absent; style = Plain })) (0 ∷ 1 ∷ 2 ∷ 3 ∷ 4 ∷ 5 ∷ 6 ∷ 7 ∷ []) ≡ false ∷ true ∷ false ∷ true ∷ true ∷ false ∷ true ∷ false ∷ []
+pub far_ends : map (λ u. far_end rails (record { spacing = n 5; pull = n 1; underlay = u; run_len = n 5; short_stitches = true; split = None; style = Plain })) (0 ∷ 1 ∷ 2 ∷ 3 ∷ 4 ∷ 5 ∷ 6 ∷ 7 ∷ []) ≡ false ∷ true ∷ false ∷ true ∷ true ∷ false ∷ true ∷ false ∷ []
 unfolding few after_centre after_zigzag far_end
 far_ends = refl
 
 -- ---- the constants
 
 -- 2.5 and 0.15: a second pair 2 from the last is crowded on both rails, and loses 3 of 20 at each end
-pub short_ends : stitch (record { spacing = n 5; pull = n 0; underlay = 0; run_len = n 5; short_stitches = true; split = Absent; style = Plain }) true (pair 0 0 0 20) (pair 2 0 2 20) ≡ pt 2 3 ∷ pt 2 17 ∷ []
+pub short_ends : stitch (record { spacing = n 5; pull = n 0; underlay = 0; run_len = n 5; short_stitches = true; split = None; style = Plain }) true (pair 0 0 0 20) (pair 2 0 2 20) ≡ pt 2 3 ∷ pt 2 17 ∷ []
 unfolding add sub mul div neg lt le eq of_int round is_nan literal negative before smaller larger isqrt near_root root_units root len dist norm tiny short_dist short_inset widened crowded pulled stitch
 short_ends = refl
 

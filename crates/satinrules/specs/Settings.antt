@@ -1,12 +1,10 @@
 -- The satin settings: the four constants, what is accepted, and what the maker says. Definitions only.
-use Rattle.std.specs.Prelude.{Bool, true, ◌&&◌, cond, Float}
+use Rattle.std.specs.Prelude.{Bool, true, ◌&&◌, cond, Option, None, Some, Float}
 use Rattle.std.specs.Float.Ieee.{eq}
 use Rattle.refusal.specs.Refusal.{SETTING, Answer, done, refused, unless, answer}
 use Rattle.numbers.specs.Num.{literal, zero64}
 use Rattle.limits.specs.Limits.{good_spacing, good_len, good_inset, good_underlay, good_split}
 use Rattle.satinrules.specs.declared.Satin.{Satin}
-use Rattle.satinrules.specs.declared.Split.{Split}
-use Rattle.satinrules.specs.declared.Split.TheVariants as split
 use Rattle.satinrules.specs.declared.Made.{Made}
 use Rattle.satinrules.specs.declared.Made.TheVariants as made
 
@@ -27,17 +25,17 @@ unfoldable pub zigzag_underlay_spacing : Float
 zigzag_underlay_spacing = literal 30 1
 
 -- a split is absent, or a length of 0.5 to 1,000
-unfoldable pub good_split_set : Split → Bool
-good_split_set split.Absent = true
-good_split_set (split.Length max) = good_split max
+unfoldable pub good_split_set : Option Float → Bool
+good_split_set None = true
+good_split_set (Some max) = good_split max
 
 -- spacing 0.5 to 1,000; pull -100 to 100; underlay 0 to 7; run_len 1 to 1,000
 unfoldable pub good_satin : Satin → Bool
 good_satin g = good_spacing g.spacing && (good_inset g.pull && (good_underlay g.underlay && (good_len g.run_len && good_split_set g.split)))
 
 -- the split that a number says: 0 of either sign is none
-unfoldable pub split_of : Float → Split
-split_of x = cond (eq x zero64) split.Absent (split.Length x)
+unfoldable pub split_of : Float → Option Float
+split_of x = cond (eq x zero64) None (Some x)
 
 -- ---- what the maker says
 

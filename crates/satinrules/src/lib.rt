@@ -3,7 +3,7 @@
 #![tactic(auto)]
 
 ghost use Rattle.std.specs.Prelude.{◌≡◌};
-ghost use Rattle.satinrules.specs.Settings.{said_made, good_split_set, good_satin, split_of, made_answer};
+ghost use Rattle.satinrules.specs.Settings.{said_made, good_satin, split_of, made_answer};
 
 use geom::P;
 use limits::{good_inset, good_len, good_spacing, good_split, good_underlay};
@@ -16,13 +16,6 @@ pub struct Pair {
     pub b: P,
 }
 
-// The longest top stitch, in units; or none is too long.
-#[derive(Clone, Copy)]
-pub enum Split {
-    Absent,
-    Length(f64),
-}
-
 // How the top stitches cross the column.
 #[derive(Clone, Copy)]
 pub enum Style {
@@ -31,7 +24,9 @@ pub enum Style {
     Zigzag,
 }
 
-// The satin settings: one record, passed by value. The underlay's bits are 1 centre, 2 contour, 4 zigzag.
+// The satin settings: one record, passed by value. The underlay's bits are 1 centre, 2 contour, 4 zigzag; `split` is the longest top stitch,
+// in units, or none is too long.
+// kept (1): `good_satin` answers about every number of bits, and says no above 7, which three bools couldn't.
 #[derive(Clone, Copy)]
 pub struct Satin {
     pub spacing: f64,
@@ -39,7 +34,7 @@ pub struct Satin {
     pub underlay: u64,
     pub run_len: f64,
     pub short_stitches: bool,
-    pub split: Split,
+    pub split: Option<f64>,
     pub style: Style,
 }
 
@@ -50,43 +45,22 @@ pub enum Made {
     Refused(u64),
 }
 
-fn good_split_set(split: Split) -> bool
-    ensures { result ≡ good_split_set split }
-{
-    match split {
-        Split::Absent => true,
-        Split::Length(max) => good_split(max),
-    }
-}
-
 // Whether each setting is in its range.
 pub fn good_satin(g: Satin) -> bool
     ensures { result ≡ good_satin g }
 {
-    if !good_spacing(g.spacing) {
-        return false;
-    }
-    if !good_inset(g.pull) {
-        return false;
-    }
-    if !good_underlay(g.underlay) {
-        return false;
-    }
-    if !good_len(g.run_len) {
-        return false;
-    }
-    let split = g.split;
-    good_split_set(split)
+    good_spacing(g.spacing)
+        && good_inset(g.pull)
+        && good_underlay(g.underlay)
+        && good_len(g.run_len)
+        && g.split.is_none_or(good_split)
 }
 
 // The split that a number says: 0 of either sign is none.
-pub fn split_of(x: f64) -> Split
+pub fn split_of(x: f64) -> Option<f64>
     ensures { result ≡ split_of x }
 {
-    if x == 0.0 {
-        return Split::Absent;
-    }
-    Split::Length(x)
+    if x == 0.0 { None } else { Some(x) }
 }
 
 impl Satin {

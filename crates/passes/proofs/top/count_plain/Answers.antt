@@ -1,10 +1,10 @@
 use Rattle.satinrules.specs.Column.{split_by}
 use Rattle.passes.proofs.top.count_plain.Goals as goal
 
-pub returns-in-Absent : goal.returns-in-Absent
+pub returns-in-None : goal.returns-in-None
 unfolding split_by
-returns-in-Absent c = rw c.in-Absent.is c.count_all.ensures
+returns-in-None c = rw c.in-None.is c.count_all.ensures
 
-pub returns-in-Length : goal.returns-in-Length
+pub returns-in-Some : goal.returns-in-Some
 unfolding split_by
-returns-in-Length c = rw c.in-Length.is c.count_split.ensures
+returns-in-Some c = rw c.in-Some.is c.count_split.ensures

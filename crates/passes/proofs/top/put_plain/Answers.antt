@@ -3,16 +3,16 @@ use Rattle.passes.proofs.top.put_plain.Goals as goal
 
 pub put_all-requires : goal.put_all-requires
 unfolding split_by
-put_all-requires c = rw c.in-Absent.is at c.requires
+put_all-requires c = rw c.in-None.is at c.requires
 
 pub put_split-requires : goal.put_split-requires
 unfolding split_by
-put_split-requires c = rw c.in-Length.is at c.requires
+put_split-requires c = rw c.in-Some.is at c.requires
 
-pub returns-in-Absent : goal.returns-in-Absent
+pub returns-in-None : goal.returns-in-None
 unfolding split_by
-returns-in-Absent c = rw c.in-Absent.is c.put_all.ensures
+returns-in-None c = rw c.in-None.is c.put_all.ensures
 
-pub returns-in-Length : goal.returns-in-Length
+pub returns-in-Some : goal.returns-in-Some
 unfolding split_by
-returns-in-Length c = rw c.in-Length.is c.put_split.ensures
+returns-in-Some c = rw c.in-Some.is c.put_split.ensures
