@@ -1,8 +1,7 @@
 -- The four calls of a column: who is turned away, in the order of document 01's table, and what a call leaves in each slice. Definitions only.
 use Rattle.std.specs.Prelude.{ℕ, ◌+◌, ◌*◌, ◌/◌, ◌%◌, Bool, ◌&&◌, ◌||◌, cond, List, [], ◌∷◌, ◌++◌, leb, eqb, length, replicate, Float}
 use Rattle.refusal.specs.Refusal.{DONE, LAYOUT, NUMBER, SETTING, SIZE, WORK, unless, ◌then◌}
-use Rattle.refusal.specs.Sewn.{sewn, output}
-use Rattle.refusal.specs.declared.Sewn.{Sewn}
+use Rattle.refusal.specs.Sewn.{Sewn, sewn, output}
 use Rattle.numbers.specs.Num.{zero64}
 use Rattle.seqs.specs.Lists.{each, every, fold}
 use Rattle.geom.specs.declared.point.P.{P}

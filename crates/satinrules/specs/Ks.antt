@@ -1,5 +1,5 @@
 -- Document 01's checks K10 and K11, of the definitions, by computing; a whole column; and the four constants.
-use Rattle.std.specs.Prelude.{ℕ, ◌≡◌, refl, true, false, [], ◌∷◌, map, length, Float}
+use Rattle.std.specs.Prelude.{ℕ, ◌≡◌, refl, true, false, [], ◌∷◌, None, Some, map, length, Float}
 use Rattle.std.specs.Float.Ieee.{add, sub, mul, div, neg, lt, le, eq, of_int, round, to_unsigned, is_nan}
 use Rattle.numbers.specs.Num.{literal}
 use Rattle.numbers.specs.Order.{negative, before, smaller, larger}

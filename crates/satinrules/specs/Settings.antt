@@ -1,12 +1,10 @@
 -- The satin settings: the four constants, what is accepted, and what the maker says. Definitions only.
 use Rattle.std.specs.Prelude.{Bool, true, ◌&&◌, cond, Option, None, Some, Float}
 use Rattle.std.specs.Float.Ieee.{eq}
-use Rattle.refusal.specs.Refusal.{SETTING, Answer, done, refused, unless, answer}
+use Rattle.refusal.specs.Refusal.{SETTING, Answer, unless, answer}
 use Rattle.numbers.specs.Num.{literal, zero64}
 use Rattle.limits.specs.Limits.{good_spacing, good_len, good_inset, good_underlay, good_split}
 use Rattle.satinrules.specs.declared.Satin.{Satin}
-use Rattle.satinrules.specs.declared.Made.{Made}
-use Rattle.satinrules.specs.declared.Made.TheVariants as made
 
 -- 2.5: rail points closer than this count as crowded
 unfoldable pub short_dist : Float
@@ -38,10 +36,6 @@ unfoldable pub split_of : Float → Option Float
 split_of x = cond (eq x zero64) None (Some x)
 
 -- ---- what the maker says
-
-abbrev pub said_made : Made → Answer Satin
-said_made (made.Settings g) = done g
-said_made (made.Refused n) = refused n
 
 unfoldable pub made_answer : Satin → Answer Satin
 made_answer g = answer (unless SETTING (good_satin g)) g

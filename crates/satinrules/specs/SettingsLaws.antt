@@ -1,16 +1,28 @@
 -- What the maker says tells what it answered. Assumes nothing.
-use Rattle.std.specs.Prelude.{◌≡◌}
-use Rattle.std.proofs.Common.{ap}
+use Rattle.std.specs.Prelude.{ℕ, ◌≡◌, refl, cond, eqb, Result, Ok, Err}
+use Rattle.std.proofs.Common.{ap, sym, ◌∙◌}
 use Rattle.refusal.specs.AnswerLaws.{done_one, done_refused, refused_done, refused_one}
+use Rattle.refusal.specs.Refusal.{number, said}
+use Rattle.refusal.specs.declared.Refusal.{Refusal}
+use Rattle.refusal.specs.declared.Refusal.TheVariants.{Layout, Number, Setting, Turn, Size, Work, Room}
 use Rattle.satinrules.specs.declared.Satin.{Satin}
-use Rattle.satinrules.specs.declared.Made.{Made}
-use Rattle.satinrules.specs.declared.Made.TheVariants.{Settings, Refused}
-use Rattle.satinrules.specs.Settings.{said_made}
+
+of_number : ℕ → Refusal
+of_number n = cond (eqb n 1) Layout (cond (eqb n 2) Number (cond (eqb n 3) Setting (cond (eqb n 4) Turn (cond (eqb n 5) Size (cond (eqb n 6) Work Room)))))
+
+told : (e : Refusal) → of_number (number e) ≡ e
+unfolding of_number
+told Layout = refl
+told Number = refl
+told Setting = refl
+told Turn = refl
+told Size = refl
+told Work = refl
+told Room = refl
 
 -- no two answers say the same
-pub said_one : (x y : Made) → said_made x ≡ said_made y → x ≡ y
-unfolding said_made
-said_one (Settings g) (Settings h) e = ap Settings (done_one e)
-said_one (Settings g) (Refused m) e = absurd (done_refused e)
-said_one (Refused n) (Settings h) e = absurd (refused_done e)
-said_one (Refused n) (Refused m) e = ap Refused (refused_one Satin e)
+pub said_one : (x y : Result Satin Refusal) → said x ≡ said y → x ≡ y
+said_one (Ok g) (Ok h) e = ap (λ v. Ok v) (done_one e)
+said_one (Ok g) (Err m) e = absurd (done_refused e)
+said_one (Err n) (Ok h) e = absurd (refused_done e)
+said_one (Err n) (Err m) e = ap (λ v. Err v) (sym (told n) ∙ ap of_number (refused_one Satin e) ∙ told m)

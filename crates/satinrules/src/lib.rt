@@ -3,11 +3,12 @@
 #![tactic(auto)]
 
 ghost use Rattle.std.specs.Prelude.{◌≡◌};
-ghost use Rattle.satinrules.specs.Settings.{said_made, good_satin, split_of, made_answer};
+ghost use Rattle.refusal.specs.Refusal.{said};
+ghost use Rattle.satinrules.specs.Settings.{good_satin, split_of, made_answer};
 
 use geom::P;
 use limits::{good_inset, good_len, good_spacing, good_split, good_underlay};
-use refusal::SETTING;
+use refusal::Refusal;
 
 // Matched points on both rails.
 #[derive(Clone, Copy)]
@@ -36,13 +37,6 @@ pub struct Satin {
     pub short_stitches: bool,
     pub split: Option<f64>,
     pub style: Style,
-}
-
-// What the maker says: the settings, or document 01's number.
-#[derive(Clone, Copy)]
-pub enum Made {
-    Settings(Satin),
-    Refused(u64),
 }
 
 // Whether each setting is in its range.
@@ -82,8 +76,8 @@ impl Satin {
         short_stitches: bool,
         split: f64,
         style: Style,
-    ) -> Made
-        ensures { said_made result ≡ made_answer (record { spacing = spacing; pull = pull; underlay = underlay; run_len = run_len; short_stitches = short_stitches; split = split_of split; style = style }) }
+    ) -> Result<Satin, Refusal>
+        ensures { said result ≡ made_answer (record { spacing = spacing; pull = pull; underlay = underlay; run_len = run_len; short_stitches = short_stitches; split = split_of split; style = style }) }
     {
         let g = Satin {
             spacing,
@@ -95,8 +89,9 @@ impl Satin {
             style,
         };
         if good_satin(g) {
-            return Made::Settings(g);
+            Ok(g)
+        } else {
+            Err(Refusal::Setting)
         }
-        Made::Refused(SETTING)
     }
 }

@@ -8,6 +8,6 @@ pub returns-then-x : goal.returns-then-x
 unfolding split_of of_bits
 returns-then-x c = let zero : eq c.args.x _ ≡ true = c.if-x.true in rw zero
 
-pub returns : goal.returns
+pub returns-else-x : goal.returns-else-x
 unfolding split_of of_bits
-returns c = rw c.if-x.false
+returns-else-x c = rw c.if-x.false

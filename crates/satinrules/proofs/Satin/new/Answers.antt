@@ -7,6 +7,6 @@ pub returns-then-good_satin : goal.returns-then-good_satin
 unfolding made_answer
 returns-then-good_satin c = rw (← c.split_of.ensures, sym c.good_satin.ensures ∙ c.if-good_satin.true)
 
-pub returns : goal.returns
+pub returns-else-good_satin : goal.returns-else-good_satin
 unfolding made_answer
-returns c = rw (← c.split_of.ensures, sym c.good_satin.ensures ∙ c.if-good_satin.false)
+returns-else-good_satin c = rw (← c.split_of.ensures, sym c.good_satin.ensures ∙ c.if-good_satin.false)
