@@ -3,3 +3,4 @@ pub mod Walk
 pub mod Store
 pub mod WalkLaws
 pub mod StoreLaws
+pub mod LaidLaws

@@ -1,7 +1,6 @@
 -- The running lengths of both rails, and the working slice of pairs: what stands in them. Definitions only.
-use Rattle.std.specs.Prelude.{ℕ, ◌+◌, ◌*◌, ◌/◌, ◌%◌, ◌≤◌, ◌≡◌, true, cond, List, [], ◌∷◌, ◌++◌, map, leb, length, take, drop, Float}
+use Rattle.std.specs.Prelude.{ℕ, ◌+◌, ◌/◌, ◌%◌, ◌≤◌, ◌≡◌, true, cond, List, [], ◌∷◌, map, leb, length, take, drop, Float}
 use Rattle.seqs.specs.Slices.{put}
-use Rattle.seqs.specs.Front.{Front}
 use Rattle.geom.specs.declared.point.P.{P}
 use Rattle.geom.specs.Outline.{points}
 use Rattle.geom.specs.Sewing.{flat}
@@ -11,8 +10,6 @@ use Rattle.satinrules.specs.declared.Pair.{Pair}
 use Rattle.satinrules.specs.Pairs.{pair_at}
 use Rattle.satinrules.specs.Calls.{rails_of, both_points}
 use Rattle.arc.specs.Rail.{Railed}
-use Rattle.pairing.specs.declared.store.Laying.{Laying}
-use Rattle.pairing.specs.Walk.{left_of, walk_at}
 
 -- the running lengths of both rails, one after the other, stand at the front
 pub record Laid (a b rails : List Float) : Type 0 where
@@ -40,13 +37,3 @@ stored_pairs a b sync ps = flat (both_points (map (pair_at (rails_of a b sync)) 
 -- both points of a pair from `to` on, where there is room for them
 abbrev pub put_within : List Float → ℕ → Pair → List Float
 put_within w to q = cond (leb (to + 4) (length w)) (put w to (flat (q.a ∷ q.b ∷ []))) w
-
--- laying has gone on in its window from l to r, and the slice from w to w': where the pairs of the whole have room, those before `to` stand at the front
-pub record Stretch (a b : List Float) (step : Float) (w w' : List Float) (l r : Laying) : Type 0 where
-  pub walk : r.walk ≡ walk_at l.walk r.walk.s r.walk.left
-  pub taken : r.to + 4 * r.walk.left ≡ l.to + 4 * l.walk.left
-  pub size : length w' ≡ length w
-  pub count : (ends : P) (sync : List Float) → r.to + 4 * length (left_of step ends sync r.walk) ≡ l.to + 4 * length (left_of step ends sync l.walk)
-  pub laid : (ends : P) (sync d : List Float) (whole : List P) → 4 * length whole ≤ length d
-      → Front d w l.to (stored_pairs a b sync (left_of step ends sync l.walk ++ (ends ∷ []))) (stored_pairs a b sync whole)
-      → Front d w' r.to (stored_pairs a b sync (left_of step ends sync r.walk ++ (ends ∷ []))) (stored_pairs a b sync whole)

@@ -1,37 +1,38 @@
 -- What is proved of the walk: its turns, and that it comes to the places. Assumes nothing.
 use Prim.Native.Nat.{ℕ, zero, suc, ◌+◌, ◌-◌, ◌≤◌, ◌<◌}
 use native.Mathlib.Omega.{arith}
-use Rattle.std.specs.Prelude.{◌≡◌, Bool, true, false, ◌&&◌, cond, List, [], ◌∷◌, ltb, length, drop, Float}
+use Rattle.std.specs.Prelude.{◌≡◌, Bool, true, false, ◌&&◌, cond, Option, Some, List, [], ◌∷◌, ◌++◌, ltb, length, Float}
 use Rattle.std.proofs.Math.Path.{refl}
-use Rattle.std.proofs.Common.{sym, ap, ◌∙◌, inl, inr, length-append, lt-ltb, ltb-true}
-use Rattle.std.specs.Float.Ieee.{lt}
-use Rattle.numbers.specs.Num.{◌⊕◌, ◌⊖◌, zero64}
-use Rattle.seqs.specs.Tests.{and_both, clash, either}
+use Rattle.std.proofs.Common.{sym, ap, ◌∙◌, inl, inr, length-append, lt-ltb}
+use Rattle.std.specs.Float.Ieee.{lt, sub, mul, round}
+use Rattle.numbers.specs.Num.{◌⊕◌, ◌⊖◌, zero64, literal}
+use Rattle.seqs.specs.Tests.{clash, either}
 use Rattle.geom.specs.declared.point.P.{P}
-use Rattle.geom.specs.Outline.{points}
-use Rattle.geom.specs.OutlineLaws.{corner_at, points_next, points_end}
 use Rattle.polyline.specs.Line.{shortest}
 use Rattle.satinrules.specs.Pairs.{origin, grows, kept, centre, centres_from, total_of, count_of, place_at, in_window, windows, places}
 use Rattle.pairing.specs.declared.places.Pass.{Pass}
-use Rattle.pairing.specs.declared.places.Walk.{Walk}
-use Rattle.pairing.specs.Walk.{rest_of, later_of, left_of, walk_at, goes_on, pass_along, pass_of, walk_places}
+use Rattle.pairing.specs.Walk.{option_list, places_left, pass_along, pass_of, walk_places}
 
 -- ---- the sync points that are kept
 
-module _ (ends p : P) (sync : List Float) (i : ℕ) where
-  pub kept_grows : i + 1 < length sync → grows ends p (corner_at sync i) ≡ true → kept ends p (points (drop i sync)) ≡ corner_at sync i ∷ kept ends (corner_at sync i) (points (drop (i + 2) sync))
+module _ (ends p q : P) (qs : List P) where
+  pub kept_grows : grows ends p q ≡ true → kept ends p (q ∷ qs) ≡ q ∷ kept ends q qs
   unfolding kept
-  kept_grows h e = rw (points_next sync i h, e)
+  kept_grows e = rw e
 
-  pub kept_skips : i + 1 < length sync → grows ends p (corner_at sync i) ≡ false → kept ends p (points (drop i sync)) ≡ kept ends p (points (drop (i + 2) sync))
+  pub kept_skips : grows ends p q ≡ false → kept ends p (q ∷ qs) ≡ kept ends p qs
   unfolding kept
-  kept_skips h e = rw (points_next sync i h, e)
+  kept_skips e = rw e
 
-  pub kept_ends_lem : length sync ≤ i + 1 → kept ends p (points (drop i sync)) ≡ ends ∷ []
-  unfolding kept
-  kept_ends_lem h = rw (points_end sync i h)
+-- where a walk over windows stands that has just begun: `done` is false, and this is what is left
+pub kept_whole : (ends from : P) (sync : List P) (done : Bool) (v : P × List P) → done ≡ false → (from, cond done [] (kept ends from sync)) ≡ v → (from ≡ v.0) × (v.1 ≡ kept ends from sync)
+kept_whole ends from sync done v d e = (ap (λ (x : P × List P). x.0) e, sym (ap (λ (x : P × List P). x.1) e) ∙ rw d)
 
 -- ---- the windows
+
+and_no : (b : Bool) → (b && false) ≡ false
+and_no true = refl
+and_no false = refl
 
 no_more : (b : Bool) (m : ℕ) → (b && ltb 0 (suc m)) ≡ false → b ≡ false
 no_more true m e = clash (lt-ltb 0 (suc m) (omega arith)) e
@@ -48,57 +49,42 @@ module _ (step : Float) (p q : P) (on : Float → ℕ → List P) (s : Float) wh
   window_over zero e = refl
   window_over (suc m) e = rw (no_more (lt s (centre p q ⊖ shortest)) m e)
 
-module _ (step : Float) (ends : P) (sync : List Float) (k : Walk) where
-  pub walk_over : goes_on k ≡ false → left_of step ends sync k ≡ windows step k.to (later_of ends sync k) (k.s ⊖ centre k.from k.to) k.left
-  unfolding left_of goes_on
-  walk_over e = window_over step k.from k.to (windows step k.to (later_of ends sync k)) k.s k.left e
+-- the centre lengths, from window to window
+pub centres_next : (sum : Float) (v t : P × List P) (from to : P) {all : Float} → from ≡ v.0 → to ≡ t.0 → v.1 ≡ t.0 ∷ t.1 → centres_from sum v.0 v.1 ≡ all → centres_from (sum ⊕ centre from to) t.0 t.1 ≡ all
+unfolding centres_from
+centres_next sum v t from to a b e h = rw (a, b) (rw e at h)
 
-  pub walk_ends : goes_on k ≡ false → k.last ≡ true → left_of step ends sync k ≡ []
-  unfolding rest_of windows
-  walk_ends e l = walk_over e ∙ rw l
+pub centres_end : (sum : Float) (v : P × List P) {all : Float} → v.1 ≡ [] → centres_from sum v.0 v.1 ≡ all → sum ≡ all
+unfolding centres_from
+centres_end sum v e h = rw e at h
 
-module _ (k : Walk) (e : goes_on k ≡ true) where
-  both : (lt k.s (centre k.from k.to ⊖ shortest) ≡ true) × (ltb 0 k.left ≡ true)
-  unfolding goes_on
-  both = and_both (lt k.s (centre k.from k.to ⊖ shortest)) (ltb 0 k.left) e
+-- ---- the places that are still to come
 
-  pub goes_left : 0 < k.left
-  goes_left = ltb-true 0 k.left both.1
+module _ (step : Float) (p q : P) (v : P × List P) (s : Float) (m : ℕ) (end : Option P) where
+  pub left_here : lt s (centre p q ⊖ shortest) ≡ true → 0 < m → places_left step p q v s m end ≡ place_at p q s ∷ places_left step p q v (s ⊕ step) (m - 1) end
+  unfolding places_left
+  left_here e h = ap (λ (l : List P). l ++ option_list end) (window_goes step p q (windows step v.0 v.1) s m e h)
 
-  pub walk_goes : (step : Float) (ends : P) (sync : List Float) → left_of step ends sync k ≡ place_at k.from k.to k.s ∷ left_of step ends sync (walk_at k (k.s ⊕ step) (k.left - 1))
-  unfolding left_of
-  walk_goes step ends sync = window_goes step k.from k.to (windows step k.to (later_of ends sync k)) k.s k.left both.0 goes_left
+  module _ (over : (lt s (centre p q ⊖ shortest) && ltb 0 m) ≡ false) where
+    pub left_next : (from to : P) (t : P × List P) → from ≡ v.0 → to ≡ t.0 → v.1 ≡ t.0 ∷ t.1 → places_left step p q v s m end ≡ places_left step from to t (s ⊖ centre p q) m end
+    unfolding places_left windows
+    left_next from to t a b e = rw (window_over step p q (windows step v.0 v.1) s m over, a, b, e)
 
--- what the code's test says
-pub goes_is : (k : Walk) (s end : Float) (left : ℕ) {r b : Bool} → end ≡ centre k.from k.to ⊖ shortest → r ≡ (lt s end && ltb 0 left) → r ≡ b → goes_on (walk_at k s left) ≡ b
-unfolding goes_on
-goes_is k s end left e f h = ap (λ (x : Float). lt s x && ltb 0 left) (sym e) ∙ sym f ∙ h
+    pub left_none : v.1 ≡ [] → places_left step p q v s m end ≡ option_list end
+    unfolding places_left windows
+    left_none e = rw (window_over step p q (windows step v.0 v.1) s m over, e)
 
--- ---- what is kept after q
+-- no place is left, or the window is over
+pub none_left : (s end : Float) (m : ℕ) → m ≡ 0 → (lt s end && ltb 0 m) ≡ false
+none_left s end m e = rw e (and_no (lt s end))
 
-module _ (ends : P) (sync : List Float) (q : P) (i : ℕ) where
-  pub rest_more : (last : Bool) → last ≡ false → rest_of ends sync last q i ≡ kept ends q (points (drop i sync))
-  unfolding rest_of
-  rest_more last e = rw e
+pub none_here : (s end : Float) (m : ℕ) → lt s end ≡ false → (lt s end && ltb 0 m) ≡ false
+none_here s end m e = rw e
 
-  pub rest_none : (last : Bool) → last ≡ true → rest_of ends sync last q i ≡ []
-  unfolding rest_of
-  rest_none last e = rw e
-
--- the sum over the windows from p on, where q is kept next
-module _ (sum : Float) (p q : P) where
-  pub centres_on : {qs rest : List P} {t : Float} → qs ≡ rest → centres_from sum p (q ∷ qs) ≡ t → centres_from (sum ⊕ centre p q) q rest ≡ t
-  unfolding centres_from
-  centres_on e f = rw e at f
-
-  pub centres_end : {qs : List P} {t : Float} → qs ≡ [] → centres_from sum p (q ∷ qs) ≡ t → sum ⊕ centre p q ≡ t
-  unfolding centres_from
-  centres_end e f = rw e at f
-
--- the windows from p on, where q is kept next
-pub windows_on : (step : Float) (p q : P) {qs rest : List P} (s : Float) (m : ℕ) → qs ≡ q ∷ rest → windows step p qs s m ≡ in_window step p q (windows step q rest) s m
-unfolding windows
-windows_on step p q s m e = rw e
+-- before the first window there is an empty one
+pub left_whole : (ends : P) (sync : List P) (w : Pass) (v : P × List P) → v ≡ (origin, kept ends origin sync) → places_left w.step origin origin v zero64 w.n (Some ends) ≡ walk_places ends sync w
+unfolding places_left walk_places centre shortest literal round lt sub mul
+left_whole ends sync w v e = rw (e, window_over w.step origin origin (windows w.step origin (kept ends origin sync)) zero64 w.n refl)
 
 -- ---- how many places there are
 

@@ -3,4 +3,7 @@
 #![tactic(auto)]
 
 pub mod places;
+pub mod rails;
 pub mod store;
+
+pub use rails::Rails;

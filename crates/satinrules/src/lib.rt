@@ -1,6 +1,6 @@
 // What a satin column is, as definitions: document 01's rules and the source's satin.rs in specs/ (Arc, Pairs, Column, Calls), and what is
 // proved of them in the files beside them. Here are the records that travel by value, and the maker of the settings.
-#![tactic(auto)]
+#![tactic(auto, unfolding(crate::specs::Settings::good_satin, crate::specs::Settings::good_split_set, crate::specs::Settings::split_of, crate::specs::Settings::made_answer))]
 
 ghost use Rattle.std.specs.Prelude.{◌≡◌};
 ghost use Rattle.refusal.specs.Refusal.{said};
@@ -8,7 +8,7 @@ ghost use Rattle.satinrules.specs.Settings.{good_satin, split_of, made_answer};
 
 use geom::P;
 use limits::{good_inset, good_len, good_spacing, good_split, good_underlay};
-use refusal::Refusal;
+use refusal::{Refusal, unless};
 
 // Matched points on both rails.
 #[derive(Clone, Copy)]
@@ -88,10 +88,7 @@ impl Satin {
             split: split_of(split),
             style,
         };
-        if good_satin(g) {
-            Ok(g)
-        } else {
-            Err(Refusal::Setting)
-        }
+        unless(Refusal::Setting, good_satin(g))?;
+        Ok(g)
     }
 }

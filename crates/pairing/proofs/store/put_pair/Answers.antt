@@ -4,7 +4,6 @@ use Prim.Native.Nat.{◌+◌}
 use native.Mathlib.Omega.{arith}
 use Rattle.satinrules.specs.Flat.{flat_size, flat_then}
 use Rattle.pairing.specs.StoreLaws.{two_size}
-use borrow.Author.Rules.{rules}
 use Rattle.pairing.proofs.store.put_pair.Goals as goal
 
 pub put_point-requires-2 : goal.put_point-requires-2

@@ -2,7 +2,6 @@
 use mathlib.Core.Path.{sym, ◌∙◌}
 use native.Mathlib.Omega.{arith}
 use Rattle.pairing.specs.StoreLaws.{two_size, within_put, within_none}
-use borrow.Author.Rules.{rules}
 use Rattle.pairing.proofs.store.put_within.Goals as goal
 
 pub shape_of-w-then-w-to-ge4 : goal.shape_of-w-then-w-to-ge4
