@@ -16,7 +16,7 @@ pub struct Found {
 pub fn find(t: Plan, floats: &mut [f64], wholes: &mut [usize]) -> Result<Found, Refusal>
     ensures { FoundIn t.entry.outline.corners.now t.entry.outline.ends.now t.entry floats.new wholes.new result }
 {
-    let e = build(t.outline.corners, t.outline.ends, t.g, floats);
+    let e = build(t.outline, t.g, floats);
     if floats.len() < 6 * e {
         return Err(Refusal::Work);
     }

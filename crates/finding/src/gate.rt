@@ -39,7 +39,7 @@ pub fn gate(corners: &[f64], ends: &[usize], g: Settings, stagger: u64) -> Resul
     if !good_turn(g.cosine, g.sine) {
         return Err(Refusal::Turn);
     }
-    let w = rows_of(o.corners, o.ends, g);
+    let w = rows_of(o, g);
     if w.n > MOST_ROWS {
         return Err(Refusal::Size);
     }

@@ -6,7 +6,7 @@ use borrow.Author.Rules.{rules}
 use Rattle.finding.proofs.find.find.Goals as goal
 
 pub build-e-requires : goal.build-e-requires
-build-e-requires c = outlined c.args.t.outline.corners.now c.args.t.outline.ends.now c.args.t (passed c.args.t)
+build-e-requires c = (outlined c.args.t.outline.corners.now c.args.t.outline.ends.now c.args.t (passed c.args.t)).few
 
 pub overflow_mul-e : goal.overflow_mul-e
 overflow_mul-e c = omega (arith, few_edges c.args.t.outline.corners.now c.args.t.outline.ends.now c.args.t (passed c.args.t), edge_count c.args.t.outline.corners.now c.args.t.outline.ends.now c.args.t (passed c.args.t) _ c.build-e.ensures)

@@ -3,12 +3,8 @@ use Rattle.std.proofs.Common.{arith, refl, sym, ◌∙◌}
 use Rattle.geom.specs.Outline.{rings}
 use Rattle.rules.specs.Fill.{edges, gate}
 use Rattle.finding.specs.Stages.{Gated}
-use Rattle.finding.specs.FindLaws.{outline_of}
 use Rattle.finding.specs.SizeLaws.{rows_many, rows_within}
 use Rattle.finding.proofs.gate.gate.Goals as goal
-
-pub rows_of-w-requires : goal.rows_of-w-requires
-rows_of-w-requires c = rw (c.in_ok-o.ensures.0, c.in_ok-o.ensures.1) (outline_of c.args.corners.now c.args.ends.now c.in_ok-o.ensures.2)
 
 pub returns-then-w-gt-MOST_ROWS : goal.returns-then-w-gt-MOST_ROWS
 unfolding Gated gate
