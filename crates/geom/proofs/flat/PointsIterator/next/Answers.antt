@@ -1,9 +1,10 @@
-use Rattle.std.proofs.Common.{rules, sym, ap, ◌∙◌, ◌≡◌, ◌+◌, List, length}
+use Rattle.std.proofs.Common.{rules, sym, ap, ◌∙◌, ◌≡◌, ◌+◌, List, ◌∷◌, length}
 use Rattle.std.proofs.Math.ListN.{drop}
 use Rattle.geom.specs.declared.point.P.{P}
 use Rattle.geom.specs.Outline.{points}
 use Rattle.std.proofs.lemmas.List.{take_rest}
-use Rattle.geom.specs.OutlineLaws.{points_next, points_end}
+use Rattle.std.specs.Prelude.{Float}
+use Rattle.geom.specs.OutlineLaws.{corner_at, points_next, points_end}
 use Rattle.geom.proofs.flat.PointsIterator.next.Goals as goal
 
 pub returns-then-self-lt2-clause-steps : goal.returns-then-self-lt2-clause-steps
@@ -12,7 +13,8 @@ returns-then-self-lt2-clause-steps c =
 
 pub returns-clause-steps : goal.returns-clause-steps
 returns-clause-steps c =
-    rw (take_rest c.self.inside.rest.now 2) (sym c.self.view_is ∙ points_next c.self.inside.rest.now 0 (search rules))
+    let r = c.self.inside.rest.now in
+    sym c.self.view_is ∙ points_next r 0 (search rules) ∙ ap (λ (l : List Float). corner_at r 0 ∷ points l) (sym (take_rest r 2))
 
 pub returns-clause-goes : goal.returns-clause-goes
 returns-clause-goes c =
