@@ -4,14 +4,9 @@ ghost use Rattle.rowwise.specs.Rows.{FoundIn};
 
 use crate::rows::all_rows;
 use finding::Plan;
+use finding::find::Found;
 
-// How many pieces.
-#[derive(Clone, Copy)]
-pub enum Found {
-    Short,
-    Held(usize),
-}
-
+// No edges stand in front of them.
 pub fn find(
     corners: &[f64],
     ends: &[usize],
@@ -23,11 +18,8 @@ pub fn find(
     ensures { FoundIn corners.now ends.now t floats.new wholes.new result }
 {
     let n = all_rows(corners, ends, t, floats, wholes);
-    if floats.len() < 4 * n {
+    if floats.len() < 4 * n || wholes.len() < 6 * n {
         return Found::Short;
     }
-    if wholes.len() < 6 * n {
-        return Found::Short;
-    }
-    Found::Held(n)
+    Found::Held(0, n)
 }
