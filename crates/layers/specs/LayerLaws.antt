@@ -1,10 +1,10 @@
 -- One fill over a table that stands: the edges are its own, and what is laid is what a lone fill would lay. Assumes nothing.
-use Rattle.std.specs.Prelude.{ℕ, ◌*◌, ◌≤◌, ◌<◌, ◌≡◌, refl, Bool, true, cond, not, List, ltb, Float}
-use Rattle.std.proofs.Common.{arith, ap, ◌∙◌, subst}
+use Rattle.std.specs.Prelude.{ℕ, ◌*◌, ◌≤◌, ◌<◌, ◌≡◌, refl, Bool, true, false, cond, not, ◌||◌, List, ltb, Float}
+use Rattle.std.proofs.Common.{arith, ap, sym, ◌∙◌, subst}
 use Rattle.std.proofs.Math.Bool.{or-true}
 use Rattle.std.proofs.Math.ListN.{length}
-use borrow.Author.Tests.{lt-ltb, le-ltb}
-use Rattle.refusal.specs.Refusal.{DONE, SETTING, SIZE, WORK, ROOM, unless}
+use borrow.Author.Tests.{lt-ltb, le-ltb, ltb-false}
+use Rattle.refusal.specs.Refusal.{DONE, SETTING, SIZE, WORK, ROOM}
 use Rattle.seqs.specs.Records.{Added}
 use Rattle.geom.specs.Outline.{rings}
 use Rattle.limits.specs.Limits.{most_rows, good_outline, good_numbers, good_turn}
@@ -22,12 +22,15 @@ use Rattle.finding.specs.Stages.{Passed, alone}
 use Rattle.finding.specs.FindLaws.{alone_count, few_edges, spans_rows}
 use Rattle.laying.specs.Laying.{Lent, Laid}
 use Rattle.laying.specs.LayingLaws.{laid_count, laid_floats, laid_counts}
-use Rattle.tatami.specs.Stages.{Lent as Sewable, list_of}
+use Rattle.finding.specs.declared.find.Found.{Found}
+use Rattle.finding.specs.declared.find.Found.TheVariants.{Short, Held}
+use Rattle.tatami.specs.Stages.{Lent as Sewable, Handed, told, list_of}
 use Rattle.layers.specs.declared.Layer.{Layer}
 use Rattle.layers.specs.declared.table.Table.{Table}
-use Rattle.layers.specs.declared.table.Table.TheVariants.{Refused, Short, Stands}
+use Rattle.layers.specs.declared.table.Table.TheVariants.{Refused, Stands}
+use Rattle.layers.specs.declared.table.Table.TheVariants as prepared
 use Rattle.layers.specs.Layers.{turn_of, table_of, table_refusal, settings_of, layer_roomed}
-use Rattle.layers.specs.Stages.{Standing, Preparing, Prepared}
+use Rattle.layers.specs.Stages.{Standing, Preparing, Prepared, found_of}
 
 -- a fill's edges at the table's angle are the table's
 pub table_edges : (corners : List Float) (ends : List ℕ) (g : Settings) → table_of corners ends g.cosine g.sine ≡ edges g (rings corners ends)
@@ -70,7 +73,7 @@ module _ (corners : List Float) (ends : List ℕ) (cosine sine : Float) (t : Lis
   pub prepared_refused : {n : ℕ} → r ≡ Refused n → (table_refusal corners ends cosine sine (length t) places ≡ n) × (1 ≤ n) × (n ≤ 5) × (t' ≡ t)
   prepared_refused e = subst (Preparing corners ends cosine sine t t' places) e h.is
 
-  pub prepared_short : r ≡ Short → table_refusal corners ends cosine sine (length t) places ≡ WORK
+  pub prepared_short : r ≡ prepared.Short → table_refusal corners ends cosine sine (length t) places ≡ WORK
   prepared_short e = subst (Preparing corners ends cosine sine t t' places) e h.is
 
   pub prepared_stands : {e : ℕ} → r ≡ Stands e → (table_refusal corners ends cosine sine (length t) places ≡ DONE) × Standing corners ends cosine sine e t' places
@@ -89,20 +92,6 @@ unfolding gate
 gate_own corners ends g stagger rest s = rw (s.outline, s.numbers, s.turn)
 
 module _ (corners : List Float) (ends : List ℕ) (t : Plan) where
-  -- 4I and 6I
-  pub own_floats : (floats wholes : ℕ) (fits : Bool) → floats < 4 * length (list_of corners ends t) → layer_roomed corners ends t.rule t.g t.upward floats wholes fits ≡ WORK
-  unfolding layer_roomed
-  own_floats floats wholes fits h = rw (lt-ltb floats (4 * length (list_of corners ends t)) h)
-
-  pub own_wholes : (floats wholes : ℕ) (fits : Bool) → wholes < 6 * length (list_of corners ends t) → layer_roomed corners ends t.rule t.g t.upward floats wholes fits ≡ WORK
-  unfolding layer_roomed
-  own_wholes floats wholes fits h = rw (lt-ltb wholes (6 * length (list_of corners ends t)) h, or-true (ltb floats (4 * length (list_of corners ends t))))
-
-  pub own_enough : (floats wholes : ℕ) (fits : Bool) → 4 * length (list_of corners ends t) ≤ floats → 6 * length (list_of corners ends t) ≤ wholes
-      → layer_roomed corners ends t.rule t.g t.upward floats wholes fits ≡ unless ROOM fits
-  unfolding layer_roomed
-  own_enough floats wholes fits f w = rw (le-ltb floats (4 * length (list_of corners ends t)) f, le-ltb wholes (6 * length (list_of corners ends t)) w) (room_told fits)
-
   module _ (p : Passed corners ends t) {e places : ℕ} {table : List Float} (s : Standing corners ends t.g.cosine t.g.sine e table places) where
     own_edges : edges_in e table ≡ edges t.g (rings corners ends)
     own_edges = s.edges ∙ table_edges corners ends t.g
@@ -138,3 +127,23 @@ module _ (corners : List Float) (ends : List ℕ) (t : Plan) where
             floats = omega arith;
             wholes = omega arith;
           }
+
+      module _ (sd : length d' ≡ length d) (sa : length a' ≡ length a) {found : Found} (is : found ≡ found_of n (length d') (length a')) where
+        pub own_handed : Handed corners ends t d' a' found
+        own_handed = rw is (go (ltb (length d') (4 * n)) refl (ltb (length a') (6 * n)) refl)
+          where
+            go : (f : Bool) → ltb (length d') (4 * n) ≡ f → (w : Bool) → ltb (length a') (6 * n) ≡ w → Handed corners ends t d' a' (cond (f || w) Short (Held 0 n))
+            go true ef w ew = tt
+            go false ef true ew = tt
+            go false ef false ew =
+                let f = ltb-false (length d') (4 * n) ef in
+                let w = ltb-false (length a') (6 * n) ew in
+                record { few = omega arith; floats = omega arith; wholes = omega arith; lent = own_pieces sd sa (omega arith) (omega arith) }
+
+        pub own_told : (fits : Bool) → told found fits ≡ layer_roomed corners ends t.rule t.g t.upward (length d) (length a) fits
+        unfolding layer_roomed
+        own_told fits = rw (is, ← sd, ← sa, ← own_count) (go (ltb (length d') (4 * n) || ltb (length a') (6 * n)))
+          where
+            go : (b : Bool) → told (cond b Short (Held 0 n)) fits ≡ cond b WORK (cond (not fits) ROOM DONE)
+            go true = refl
+            go false = sym (room_told fits)

@@ -1,10 +1,12 @@
 -- What the stages of two fills over one table hand on. Definitions only.
-use Rattle.std.specs.Prelude.{ℕ, ◌*◌, ◌≤◌, ◌≡◌, true, List, length, Float}
+use Rattle.std.specs.Prelude.{ℕ, ◌*◌, ◌≤◌, ◌≡◌, true, ◌||◌, cond, List, ltb, length, Float}
 use Rattle.refusal.specs.Refusal.{DONE, WORK}
 use Rattle.limits.specs.Limits.{good_outline, good_numbers, good_turn}
 use Rattle.numbers.specs.Num.{zero64}
 use Rattle.edges.specs.Table.{edges_in}
 use Rattle.finding.specs.Stages.{Zeroed}
+use Rattle.finding.specs.declared.find.Found.{Found}
+use Rattle.finding.specs.declared.find.Found.TheVariants as finding
 use Rattle.layers.specs.declared.table.Table.{Table}
 use Rattle.layers.specs.declared.table.Table.TheVariants.{Refused, Short, Stands}
 use Rattle.layers.specs.Layers.{table_of, table_refusal}
@@ -36,3 +38,7 @@ pub record Cleared (t t' d d' f f' : List Float) (p p' a a' w w' : List ℕ) : T
   pub wholes : Zeroed 0 a a'
   pub floats2 : Zeroed zero64 f f'
   pub wholes2 : Zeroed 0 w w'
+
+-- what was found of n pieces with no edge in front of them, in slices of `floats` and `wholes` numbers
+abbrev pub found_of : ℕ → ℕ → ℕ → Found
+found_of n floats wholes = cond (ltb floats (4 * n) || ltb wholes (6 * n)) finding.Short (finding.Held 0 n)

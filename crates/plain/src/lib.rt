@@ -8,15 +8,13 @@ ghost use Rattle.std.specs.Prelude.{◌≡◌};
 ghost use Rattle.tatami.specs.Left.{left, left_list};
 ghost use Rattle.plain.specs.Plain.{plain_tatami_left, plain_row_list_left};
 
-pub mod list;
-pub mod sew;
-
-use crate::list::listing;
-use crate::sew::sewing;
 use finding::Plan;
 use finding::gate::{Way, gate};
 use outlines::FillRule;
+use rowwise::find::find;
 use rules::Settings;
+use tatami::list::list_found;
+use tatami::sew::sew_found;
 use tatami::{Filled, Listed};
 
 // The points of every section, x before y, to the front of `points`, and where each section ends, in points, to the front of `stops`.
@@ -48,10 +46,8 @@ pub fn tatami(
                 upward,
                 rows: w,
             };
-            let r = sewing(corners, ends, t, points, stops, floats, wholes);
-            floats.fill(0.0);
-            wholes.fill(0);
-            r
+            let found = find(corners, ends, t, floats, wholes);
+            sew_found(corners, ends, t, found, points, stops, floats, wholes)
         }
     }
 }
@@ -85,10 +81,8 @@ pub fn row_list(
                 upward,
                 rows: w,
             };
-            let r = listing(corners, ends, t, ys, rows, sections, floats, wholes);
-            floats.fill(0.0);
-            wholes.fill(0);
-            r
+            let found = find(corners, ends, t, floats, wholes);
+            list_found(corners, ends, t, found, ys, rows, sections, floats, wholes)
         }
     }
 }

@@ -1,24 +1,21 @@
 -- What each number of document 01 leaves, and which number a stage's findings give. Assumes nothing.
-use Rattle.std.specs.Prelude.{ℕ, ◌-◌, ◌*◌, ◌/◌, ◌≤◌, ◌<◌, ◌≡◌, refl, Bool, true, false, not, ◌&&◌, ◌||◌, cond, List, map, ltb, leb, take, drop, replicate, ℤ, Float}
+use Rattle.std.specs.Prelude.{ℕ, ◌*◌, ◌/◌, ◌≤◌, ◌<◌, ◌≡◌, refl, Bool, true, false, ◌&&◌, List, map, leb, replicate, ℤ, Float}
 use Rattle.std.proofs.Common.{arith, sym, ap, ◌∙◌, subst, length-drop}
 use Rattle.std.proofs.Math.Bool.{and-false}
 use Rattle.std.proofs.Math.ListN.{length}
 use Rattle.std.proofs.lemmas.List.{length-map}
 use borrow.Author.Tests.{le-ltb, le-leb, lt-leb, leb-true, ne_eqb}
-use Rattle.refusal.specs.Refusal.{DONE, WORK, ROOM, unless}
+use Rattle.refusal.specs.Refusal.{DONE, ROOM}
 use Rattle.refusal.specs.Sewn.{output}
 use Rattle.seqs.specs.Lists.{upto}
 use Rattle.seqs.specs.Slices.{capped}
 use Rattle.seqs.specs.Tests.{and_both}
 use Rattle.seqs.specs.Capped.{capped_exact, capped_past}
 use Rattle.seqs.specs.Upto.{upto_length}
-use Rattle.seqs.specs.Parts.{tail_lent}
 use Rattle.geom.specs.declared.point.P.{P}
-use Rattle.outlines.specs.declared.rule.FillRule.{FillRule}
 use Rattle.geom.specs.Outline.{rings}
-use Rattle.rules.specs.declared.Settings.{Settings}
 use Rattle.rules.specs.declared.Entry.{Entry}
-use Rattle.rules.specs.Fill.{edges, section, row_list, sewn, need_floats, need_wholes, roomed}
+use Rattle.rules.specs.Fill.{edges, section, sewn, need_floats, need_wholes, roomed}
 use Rattle.rules.specs.Calls.{counted, worked, sewn_points, list_fits}
 use Rattle.rules.specs.CallLaws.{room_told}
 use Rattle.sewing.specs.declared.Field.{Field}
@@ -29,47 +26,49 @@ use Rattle.tatami.specs.declared.Filled.{Filled}
 use Rattle.tatami.specs.declared.Listed.{Listed}
 use Rattle.finding.specs.declared.find.Found.{Found}
 use Rattle.finding.specs.declared.find.Found.TheVariants.{Short, Held}
-use Rattle.finding.specs.Stages.{Passed, Holds, Finding, FoundIn}
-use Rattle.tatami.specs.Stages.{Lent, field_of, Sectioned, sewn_in, tatami_of, Sewed, sewn_room, list_of, Noted}
+use Rattle.finding.specs.Stages.{Passed, Finding, FoundIn}
+use Rattle.tatami.specs.Stages.{Handed, told, field_of, Sectioned, sewn_in, tatami_of, Sewed, sewn_room, list_of, Noted}
 use Rattle.finding.specs.FindLaws.{few_edges}
 
 -- ---- WORK
 
--- what was found in slices d and a, of the lengths lent
-module _ (corners : List Float) (ends : List ℕ) (t : Plan) {d : List Float} {a : List ℕ} {r : Found} (f : FoundIn corners ends t d a r) where
-  pub work_short : r ≡ Short → (floats wholes : ℕ) → length d ≡ floats → length a ≡ wholes → (fits : Bool) → roomed corners ends t.rule t.g t.upward floats wholes fits ≡ WORK
-  unfolding roomed
-  work_short e floats wholes same alike fits = rw (rw (same, alike) at (subst (Finding corners ends t d a) e f.is))
-
-  module _ (e n : ℕ) (same : r ≡ Held e n) where
-    pub held : Holds corners ends t e n d a
-    held = subst (Finding corners ends t d a) same f.is
-
-    pub work_held : (floats wholes : ℕ) → length d ≡ floats → length a ≡ wholes → (fits : Bool) → roomed corners ends t.rule t.g t.upward floats wholes fits ≡ unless ROOM fits
-    unfolding roomed
-    work_held floats wholes sf sw fits =
-        let k = held in
-        let edgesOf = length (edges t.g (rings corners ends)) in
-        let pieces_of = length (list_of corners ends t) in
-        rw (
-          le-ltb floats (need_floats edgesOf pieces_of) (omega (arith, k.floats, k.count, k.pieces, sf)),
-          le-ltb wholes (need_wholes edgesOf pieces_of) (omega (arith, k.wholes, k.count, k.pieces, sw)),
-        )
-        (room_told fits)
-
-    pub held_few : Passed corners ends t → e ≤ 1024
-    held_few p = omega (arith, held.count, few_edges corners ends t p)
-
-    -- the part behind the edges, as it is lent
-    pub lent_behind : Passed corners ends t → Lent corners ends t n (take (length d - 6 * e) (drop (6 * e) d)) (take (length a - 4 * e) (drop (4 * e) a))
-    lent_behind p =
-        rw (tail_lent d d (6 * e), tail_lent a a (4 * e))
-        (record {
+-- what was found in slices d and a
+module _ (corners : List Float) (ends : List ℕ) (t : Plan) (d : List Float) (a : List ℕ) where
+  handed_by : (r : Found) → Finding corners ends t d a r → Passed corners ends t → Handed corners ends t d a r
+  handed_by Short f p = tt
+  handed_by (Held e n) k p =
+      let few : e ≤ 1024 = omega (arith, k.count, few_edges corners ends t p) in
+      record {
+        few = few;
+        floats = omega (arith, k.floats);
+        wholes = omega (arith, k.wholes);
+        lent = record {
           passed = p;
-          laid = held.laid;
-          floats = omega (arith, held.floats, length-drop (6 * e) d);
-          wholes = omega (arith, held.wholes, length-drop (4 * e) a);
-        })
+          laid = k.laid;
+          floats = omega (arith, k.floats, length-drop (6 * e) d);
+          wholes = omega (arith, k.wholes, length-drop (4 * e) a);
+        };
+      }
+
+  told_by : (r : Found) → Finding corners ends t d a r → (fits : Bool) → told r fits ≡ roomed corners ends t.rule t.g t.upward (length d) (length a) fits
+  unfolding roomed
+  told_by Short f fits = rw f
+  told_by (Held e n) k fits =
+      let edgesOf = length (edges t.g (rings corners ends)) in
+      let pieces_of = length (list_of corners ends t) in
+      rw (
+        le-ltb (length d) (need_floats edgesOf pieces_of) (omega (arith, k.floats, k.count, k.pieces)),
+        le-ltb (length a) (need_wholes edgesOf pieces_of) (omega (arith, k.wholes, k.count, k.pieces)),
+      )
+      (sym (room_told fits))
+
+  module _ {r : Found} (f : FoundIn corners ends t d a r) where
+    pub handed : Passed corners ends t → Handed corners ends t d a r
+    handed = handed_by r f.is
+
+    -- the number, in slices as long as those that were lent
+    pub told_is : (floats wholes : ℕ) → length d ≡ floats → length a ≡ wholes → (fits : Bool) → told r fits ≡ roomed corners ends t.rule t.g t.upward floats wholes fits
+    told_is floats wholes s w fits = rw (← s, ← w) (told_by r f.is fits)
 
 -- ---- ROOM
 
@@ -134,15 +133,7 @@ module _ {n : ℕ} (h : 1 ≤ n) where
   worked_none z l k = rw (le-leb 1 n h, le-leb n 5 k)
 
 -- WORK, ROOM and DONE leave zeros
-pub worked_late : (short fits : Bool) {A : Type 0} (z : A) (l : List A) → worked (cond short WORK (cond (not fits) ROOM DONE)) z l ≡ replicate (length l) z
-worked_late true fits z l = refl
-worked_late false true z l = refl
-worked_late false false z l = refl
-
-pub worked_zero : (corners : List Float) (ends : List ℕ) (rule : FillRule) (g : Settings) (upward : Bool) (floats wholes : ℕ) (fits : Bool) {A : Type 0} (z : A) (l : List A)
-    → worked (roomed corners ends rule g upward floats wholes fits) z l ≡ replicate (length l) z
-unfolding roomed
-worked_zero corners ends rule g upward floats wholes fits z l =
-    let e = length (edges g (rings corners ends)) in
-    let i = length (row_list (rings corners ends) rule g upward) in
-    worked_late (ltb floats (need_floats e i) || ltb wholes (need_wholes e i)) fits z l
+pub worked_told : (found : Found) (fits : Bool) {A : Type 0} (z : A) (l : List A) → worked (told found fits) z l ≡ replicate (length l) z
+worked_told Short fits z l = refl
+worked_told (Held e n) true z l = refl
+worked_told (Held e n) false z l = refl

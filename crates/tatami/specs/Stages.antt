@@ -1,6 +1,6 @@
 -- What the later stages of a fill hand to the next. Definitions only.
-use Rattle.std.specs.Prelude.{ℕ, ◌*◌, ◌≤◌, ◌≡◌, Bool, cond, List, map, length, get_or, Float, ℤ}
-use Rattle.refusal.specs.Refusal.{ROOM, unless}
+use Rattle.std.specs.Prelude.{ℕ, ◌*◌, ◌≤◌, ◌≡◌, Bool, cond, List, map, length, drop, get_or, Float, ℤ}
+use Rattle.refusal.specs.Refusal.{WORK, ROOM, unless}
 use Rattle.refusal.specs.Sewn.{output}
 use Rattle.seqs.specs.Lists.{upto}
 use Rattle.geom.specs.declared.point.P.{P}
@@ -15,6 +15,8 @@ use Rattle.sections.specs.Mark.{Laid}
 use Rattle.sewing.specs.declared.Field.{Field}
 use Rattle.sewing.specs.Sewing.{entries_in, first_sections, Linked}
 use Rattle.finding.specs.declared.Plan.{Plan}
+use Rattle.finding.specs.declared.find.Found.{Found}
+use Rattle.finding.specs.declared.find.Found.TheVariants.{Short, Held}
 use Rattle.finding.specs.Stages.{Passed, alone}
 use Rattle.tatami.specs.declared.Filled.{Filled}
 use Rattle.tatami.specs.declared.Listed.{Listed}
@@ -26,6 +28,23 @@ pub record Lent (corners : List Float) (ends : List ℕ) (t : Plan) (n : ℕ) (p
   pub laid : Laid (alone corners ends t) pieces numbers n
   pub floats : 3 * n ≤ length pieces
   pub wholes : 6 * n ≤ length numbers
+
+-- a stage's pieces, behind e edges
+pub record Behind (corners : List Float) (ends : List ℕ) (t : Plan) (e n : ℕ) (d : List Float) (a : List ℕ) : Type 0 where
+  pub few : e ≤ 1024
+  pub floats : 6 * e ≤ length d
+  pub wholes : 4 * e ≤ length a
+  pub lent : Lent corners ends t n (drop (6 * e) d) (drop (4 * e) a)
+
+-- what was found, as the later stages are handed it
+abbrev pub Handed : List Float → List ℕ → Plan → List Float → List ℕ → Found → Type 0
+Handed corners ends t floats wholes Short = Unit {0}
+Handed corners ends t floats wholes (Held e n) = Behind corners ends t e n floats wholes
+
+-- the number of a call that comes so far: WORK where the pieces didn't fit, then ROOM
+abbrev pub told : Found → Bool → ℕ
+told Short fits = WORK
+told (Held e n) fits = unless ROOM fits
 
 -- what sewing is told: the number of the first row met, and which way they go
 abbrev pub field_of : Plan → ℕ → Field

@@ -10,9 +10,10 @@ ghost use Rattle.tatami.specs.Left.{left, left_list, tatami_left, row_list_left}
 pub mod list;
 pub mod sew;
 
-use crate::list::listing;
-use crate::sew::sewing;
+use crate::list::list_found;
+use crate::sew::sew_found;
 use finding::Plan;
+use finding::find::find;
 use finding::gate::{Way, gate};
 use outlines::FillRule;
 use rules::Settings;
@@ -61,10 +62,8 @@ pub fn tatami(
                 upward,
                 rows: w,
             };
-            let r = sewing(corners, ends, t, points, stops, floats, wholes);
-            floats.fill(0.0);
-            wholes.fill(0);
-            r
+            let found = find(corners, ends, t, floats, wholes);
+            sew_found(corners, ends, t, found, points, stops, floats, wholes)
         }
     }
 }
@@ -98,10 +97,8 @@ pub fn row_list(
                 upward,
                 rows: w,
             };
-            let r = listing(corners, ends, t, ys, rows, sections, floats, wholes);
-            floats.fill(0.0);
-            wholes.fill(0);
-            r
+            let found = find(corners, ends, t, floats, wholes);
+            list_found(corners, ends, t, found, ys, rows, sections, floats, wholes)
         }
     }
 }

@@ -1,16 +1,15 @@
 // The row list's stages behind the gate: pieces, sections, the list.
 ghost use Rattle.std.specs.Prelude.{◌≡◌, ◌++◌, ℕ, ◌+◌, ◌*◌, ◌≤◌, ◌<◌, length, take, drop, get_or};
-ghost use Rattle.rules.specs.Fill.{roomed};
 ghost use Rattle.rules.specs.Calls.{list_fits};
 ghost use Rattle.edges.specs.Span.{Spanned};
 ghost use Rattle.sewing.specs.Sewing.{numbers_in};
-ghost use Rattle.finding.specs.Stages.{Passed};
-ghost use Rattle.tatami.specs.Stages.{Lent, list_of, rows_in, Noted, list_room};
+ghost use Rattle.tatami.specs.Left.{left_list, left_list_by};
+ghost use Rattle.tatami.specs.Stages.{Lent, Handed, told, list_of, rows_in, Noted, list_room};
 
 use crate::Listed;
 use edges::{Rows, row_number};
 use finding::Plan;
-use finding::find::{Found, find};
+use finding::find::Found;
 use refusal::{DONE, ROOM, WORK};
 use sections::{Fill, mark_all};
 
@@ -43,7 +42,7 @@ fn has_room(n: usize, ys: &[f64], rows: &[i64], sections: &[usize]) -> bool
 }
 
 // The part behind the edges, listed.
-pub fn list_pieces(
+fn list_pieces(
     corners: &[f64],
     ends: &[usize],
     t: Plan,
@@ -77,38 +76,39 @@ pub fn list_pieces(
     }
 }
 
-// All of it: WORK, ROOM or the answer. The working slices are left as they fall.
-pub fn listing(
+// What was found, listed: WORK, ROOM or the answer. The working slices are zero on the way out.
+pub fn list_found(
     corners: &[f64],
     ends: &[usize],
     t: Plan,
+    found: Found,
     ys: &mut [f64],
     rows: &mut [i64],
     sections: &mut [usize],
     floats: &mut [f64],
     wholes: &mut [usize],
 ) -> Listed
-    requires { Passed corners.now ends.now t }
-    ensures { Noted (roomed corners.now ends.now t.rule t.g t.upward (length floats.old) (length wholes.old) (list_fits (length (list_of corners.now ends.now t)) (length ys.old) (length rows.old) (length sections.old))) (list_of corners.now ends.now t) ys.old ys.new rows.old rows.new sections.old sections.new result }
+    requires { Handed corners.now ends.now t floats.old wholes.old found }
+    ensures { left_list result ys.new rows.new sections.new floats.new wholes.new ≡ left_list_by (told found (list_fits (length (list_of corners.now ends.now t)) (length ys.old) (length rows.old) (length sections.old))) (list_of corners.now ends.now t) ys.old rows.old sections.old floats.old wholes.old }
 {
-    let found = find(corners, ends, t, floats, wholes);
-    let Found::Held(e, n) = found else {
-        return Listed {
+    let r = match found {
+        Found::Short => Listed {
             answer: WORK,
             pieces: 0,
-        };
+        },
+        Found::Held(e, n) => list_pieces(
+            corners,
+            ends,
+            t,
+            n,
+            &floats[6 * e..],
+            &mut wholes[4 * e..],
+            ys,
+            rows,
+            sections,
+        ),
     };
-    let from = 6 * e;
-    let after = 4 * e;
-    list_pieces(
-        corners,
-        ends,
-        t,
-        n,
-        &floats[from..],
-        &mut wholes[after..],
-        ys,
-        rows,
-        sections,
-    )
+    floats.fill(0.0);
+    wholes.fill(0);
+    r
 }

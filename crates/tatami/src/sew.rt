@@ -1,15 +1,14 @@
 // Tatami's stages behind the gate: pieces, sections, links, the count, the points.
 ghost use Rattle.std.specs.Prelude.{◌≡◌, length};
-ghost use Rattle.rules.specs.Fill.{roomed};
 ghost use Rattle.rules.specs.Calls.{sewn_fits};
 ghost use Rattle.edges.specs.Span.{Spanned};
 ghost use Rattle.sewing.specs.Sewing.{Linked};
-ghost use Rattle.finding.specs.Stages.{Passed};
-ghost use Rattle.tatami.specs.Stages.{Lent, field_of, Sectioned, sewn_in, tatami_of, Sewed, sewn_room};
+ghost use Rattle.tatami.specs.Left.{left, left_by};
+ghost use Rattle.tatami.specs.Stages.{Lent, Handed, told, field_of, Sectioned, sewn_in, tatami_of, Sewed, sewn_room};
 
 use crate::Filled;
 use finding::Plan;
-use finding::find::{Found, find};
+use finding::find::Found;
 use refusal::{DONE, ROOM, WORK};
 use sections::{Fill, mark_all};
 use sewing::{Field, count, link, ready, write};
@@ -87,7 +86,7 @@ fn sew(
 }
 
 // The part behind the edges, sewn.
-pub fn sew_pieces(
+fn sew_pieces(
     corners: &[f64],
     ends: &[usize],
     t: Plan,
@@ -105,37 +104,38 @@ pub fn sew_pieces(
     sew(f, sections, pieces, numbers, points, stops)
 }
 
-// All of it: WORK, ROOM or the answer. The working slices are left as they fall.
-pub fn sewing(
+// What was found, sewn: WORK, ROOM or the answer. The working slices are zero on the way out.
+pub fn sew_found(
     corners: &[f64],
     ends: &[usize],
     t: Plan,
+    found: Found,
     points: &mut [f64],
     stops: &mut [usize],
     floats: &mut [f64],
     wholes: &mut [usize],
 ) -> Filled
-    requires { Passed corners.now ends.now t }
-    ensures { Sewed (roomed corners.now ends.now t.rule t.g t.upward (length floats.old) (length wholes.old) (sewn_fits (tatami_of corners.now ends.now t) (length points.old) (length stops.old))) (tatami_of corners.now ends.now t) points.old points.new stops.old stops.new result }
+    requires { Handed corners.now ends.now t floats.old wholes.old found }
+    ensures { left result points.new stops.new floats.new wholes.new ≡ left_by (told found (sewn_fits (tatami_of corners.now ends.now t) (length points.old) (length stops.old))) (tatami_of corners.now ends.now t) points.old stops.old floats.old wholes.old }
 {
-    let found = find(corners, ends, t, floats, wholes);
-    let Found::Held(e, n) = found else {
-        return Filled {
+    let r = match found {
+        Found::Short => Filled {
             answer: WORK,
             sections: 0,
             points: 0,
-        };
+        },
+        Found::Held(e, n) => sew_pieces(
+            corners,
+            ends,
+            t,
+            n,
+            &floats[6 * e..],
+            &mut wholes[4 * e..],
+            points,
+            stops,
+        ),
     };
-    let from = 6 * e;
-    let after = 4 * e;
-    sew_pieces(
-        corners,
-        ends,
-        t,
-        n,
-        &floats[from..],
-        &mut wholes[after..],
-        points,
-        stops,
-    )
+    floats.fill(0.0);
+    wholes.fill(0);
+    r
 }
