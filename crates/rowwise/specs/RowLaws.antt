@@ -1,9 +1,8 @@
 -- A row's pieces from one crossing to the next are those of the row taken alone, and all rows one after the other the fill's. Assumes nothing.
-use Rattle.std.specs.Prelude.{ℕ, ◌+◌, ◌-◌, ◌*◌, ◌≤◌, ◌<◌, ◌≡◌, refl, Bool, true, false, not, ◌&&◌, ltb, ℤ, pos, take, replicate, Float, Option, Some, None}
+use Rattle.std.specs.Prelude.{ℕ, ◌+◌, ◌-◌, ◌*◌, ◌≤◌, ◌<◌, ◌≡◌, refl, Bool, true, false, not, ◌&&◌, ◌||◌, cond, ltb, ℤ, pos, take, replicate, Float, Option, Some, None}
 use native.Mathlib.Omega.{arith}
 use Rattle.std.proofs.Math.Path.{sym, ap, subst}
-use Rattle.std.proofs.Common.{◌∙◌, take_at, lt-ltb}
-use Rattle.std.proofs.Math.Bool.{or-true}
+use Rattle.std.proofs.Common.{◌∙◌, take_at, ltb-false}
 use mathlib.Core.List.{List, [], ◌∷◌, ◌++◌, map}
 use Rattle.std.proofs.Math.ListN.{length, length-map}
 use Rattle.std.proofs.lemmas.List.{length-replicate}
@@ -48,10 +47,11 @@ use Rattle.sweep.specs.SweptLaws.{cuts_next, cuts_none, as_pieces, as_piece, add
 use Rattle.sweep.specs.Met.{numbers_met}
 use Rattle.sweep.specs.LaidLaws.{counts_length, wrote_there}
 use Rattle.finding.specs.declared.Plan.{Plan}
-use Rattle.finding.specs.Stages.{Passed, alone}
+use Rattle.finding.specs.declared.find.Found.{Found}
+use Rattle.finding.specs.Stages.{Passed, alone, fitting}
 use Rattle.rowwise.specs.Nearest.{none_yet, meet, behind, sides_behind, Inner, Clear, left_after, row_cuts}
 use Rattle.rowwise.specs.NearestLaws.{gathered_all, nearest_none, nearest_next, nearest_fewer}
-use Rattle.rowwise.specs.Rows.{Next, Stepped, place, Putting, Laid, plain_floats, plain_wholes, plain_short, Holds}
+use Rattle.rowwise.specs.Rows.{Next, Stepped, place, Putting, Laid, FindingOf, Holds}
 
 -- ---- a scan of a row
 
@@ -237,13 +237,7 @@ module _ (corners : List Float) (ends : List ℕ) (t : Plan) {n : ℕ} {d d' : L
   pub piece_count : n ≡ pieces
   piece_count = omega (arith, l.pieces.count, flat_count)
 
-  pub short_floats : (wholes : ℕ) → length d' < 4 * n → plain_short corners ends t (length d') wholes ≡ true
-  short_floats wholes h = rw (lt-ltb (length d') (plain_floats pieces) (omega (arith, piece_count)))
-
-  pub short_wholes : (floats : ℕ) → length a' < 6 * n → plain_short corners ends t floats (length a') ≡ true
-  short_wholes floats h = rw (lt-ltb (length a') (plain_wholes pieces) (omega (arith, piece_count))) (or-true (ltb floats (plain_floats pieces)))
-
-  pub holds : 4 * n ≤ length d' → 6 * n ≤ length a' → length d' ≡ length d → length a' ≡ length a → Holds corners ends t n d' a'
+  holds : 4 * n ≤ length d' → 6 * n ≤ length a' → length d' ≡ length d → length a' ≡ length a → Holds corners ends t n d' a'
   holds f k s u =
       let c : n ≡ length flat = omega (arith, l.pieces.count) in
       let b = each_length piece_block 3 (λ q. refl) flat in
@@ -258,3 +252,11 @@ module _ (corners : List Float) (ends : List ℕ) (t : Plan) {n : ℕ} {d d' : L
           counts = take_front (row_counts 0 (alone corners ends t)) _ a' n (omega (arith, c, v)) (wrote_there 0 (row_counts 0 (alone corners ends t)) l.counts (omega (arith, c, v)));
         };
       }
+
+  pub found : (r : Option Found) → r ≡ fitting 0 n (length d') (length a') → length d' ≡ length d → length a' ≡ length a → FindingOf corners ends t d' a' r
+  found r is s u = rw is (go (ltb (length d') (4 * n)) refl (ltb (length a') (6 * n)) refl)
+    where
+      go : (f : Bool) → ltb (length d') (4 * n) ≡ f → (w : Bool) → ltb (length a') (6 * n) ≡ w → FindingOf corners ends t d' a' (cond {A = Option Found} (f || w) None (Some (record { edges = 0; pieces = n })))
+      go true ef w ew = rw (← piece_count, ef)
+      go false ef true ew = rw (← piece_count, ef, ew)
+      go false ef false ew = (refl, holds (ltb-false (length d') (4 * n) ef) (ltb-false (length a') (6 * n) ew) s u)

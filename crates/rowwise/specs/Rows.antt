@@ -16,7 +16,6 @@ use Rattle.finding.specs.Stages.{alone}
 use Rattle.rules.specs.Fill.{row_list}
 use Rattle.geom.specs.Outline.{rings}
 use Rattle.finding.specs.declared.find.Found.{Found}
-use Rattle.finding.specs.declared.find.Found.TheVariants.{Short, Held}
 use Rattle.rowwise.specs.Nearest.{sides_behind, left_after}
 
 -- ---- a scan of a row
@@ -72,9 +71,9 @@ pub record Holds (corners : List Float) (ends : List ℕ) (t : Plan) (i : ℕ) (
   pub laid : LaidOut (alone corners ends t) d a i
 
 -- no edge stands in front
-abbrev pub FindingOf : List Float → List ℕ → Plan → List Float → List ℕ → Found → Type 0
-FindingOf corners ends t floats wholes Short = plain_short corners ends t (length floats) (length wholes) ≡ true
-FindingOf corners ends t floats wholes (Held e i) = (e ≡ 0) × Holds corners ends t i floats wholes
+abbrev pub FindingOf : List Float → List ℕ → Plan → List Float → List ℕ → Option Found → Type 0
+FindingOf corners ends t floats wholes None = plain_short corners ends t (length floats) (length wholes) ≡ true
+FindingOf corners ends t floats wholes (Some f) = (f.edges ≡ 0) × Holds corners ends t f.pieces floats wholes
 
-pub record FoundIn (corners : List Float) (ends : List ℕ) (t : Plan) (floats : List Float) (wholes : List ℕ) (r : Found) : Type 0 where
+pub record FoundIn (corners : List Float) (ends : List ℕ) (t : Plan) (floats : List Float) (wholes : List ℕ) (r : Option Found) : Type 0 where
   pub is : FindingOf corners ends t floats wholes r

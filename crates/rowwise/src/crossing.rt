@@ -6,9 +6,9 @@ ghost use Rattle.rules.specs.Drawn.{cross_at};
 ghost use Rattle.edges.specs.Table.{corner, following, found, ring_edges, Outline};
 ghost use Rattle.rowwise.specs.Nearest.{Held, between, none_yet, nearer, Nearer, Gone};
 
-use edges::side::{KeptSide, corner, following, side};
+use edges::side::{corner, following, side};
 use leaves::before;
-use rules::Settings;
+use rules::{Edge, Settings};
 use sweep::piece::{Crossing, join, way};
 
 // What is asked: row y, the crossing that was passed last, and how many sides were passed with it.
@@ -41,19 +41,18 @@ fn near(q: Ask, x: f64, falls: bool, m: Crossing) -> Crossing
 }
 
 // A side of a ring, if it is kept and crosses the row.
-fn meet(q: Ask, s: KeptSide, m: Crossing) -> Crossing
+fn meet(q: Ask, s: Option<Edge>, m: Crossing) -> Crossing
     requires { Held q m }
     ensures { Gone q m (found s) 1 result }
 {
-    let KeptSide::Kept(e) = s else {
+    let Some(e) = s else {
         return m;
     };
-    if e.y0 <= q.y {
-        if q.y < e.y1 {
-            return near(q, e.x0 + (q.y - e.y0) * e.dxdy, e.falls, m);
-        }
+    if e.y0 <= q.y && q.y < e.y1 {
+        near(q, e.x0 + (q.y - e.y0) * e.dxdy, e.falls, m)
+    } else {
+        m
     }
-    m
 }
 
 // Whether row y passes between the ends of the side at place i. Where it doesn't, the side isn't crossed, and no more has to be worked out of it.

@@ -13,13 +13,10 @@ pub fn find(
     t: Plan,
     floats: &mut [f64],
     wholes: &mut [usize],
-) -> Found
+) -> Option<Found>
     requires { Passed corners.now ends.now t }
     ensures { FoundIn corners.now ends.now t floats.new wholes.new result }
 {
     let n = all_rows(corners, ends, t, floats, wholes);
-    if floats.len() < 4 * n || wholes.len() < 6 * n {
-        return Found::Short;
-    }
-    Found::Held(0, n)
+    Found::fitting(0, n, floats.len(), wholes.len())
 }
