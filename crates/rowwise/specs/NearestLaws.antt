@@ -1,5 +1,5 @@
 -- The nearest crossing is the next of the row's crossings in their order, those of equal x taken as one. Assumes nothing.
-use Rattle.std.specs.Prelude.{◌+◌, ◌^◌, ◌≤◌, ◌<◌, ◌≡◌, Bool, not, ◌&&◌, List, [], ◌∷◌, ◌++◌, ℤ, pos, negsuc, ◌+ℤ◌, length, T, Float}
+use Rattle.std.specs.Prelude.{◌+◌, ◌^◌, ◌≤◌, ◌<◌, ◌≡◌, Bool, not, ◌&&◌, List, [], ◌∷◌, ◌++◌, ℤ, pos, negsuc, ◌+ℤ◌, length, T, Float, Option, Some}
 use Rattle.std.proofs.Common.{arith, ◌∙◌, subst, true≢false, inl, inr}
 use Rattle.std.proofs.Math.Path.{refl, sym, ap}
 use Rattle.std.proofs.Math.Bool.{true, false, cond}
@@ -19,8 +19,6 @@ use Rattle.geom.specs.declared.point.P.{P}
 use Rattle.rules.specs.Fill.{dir, edge_of, kept_side}
 use Rattle.rules.proofs.Gathered.{Number, Numbers, less, more, same, rel, not_self, one_way, through, add, gathered}
 use Rattle.rules.specs.Drawn.{crosses, cross_at, unsorted}
-use Rattle.edges.specs.declared.side.KeptSide.{KeptSide}
-use Rattle.edges.specs.declared.side.KeptSide.TheVariants.{Kept}
 use Rattle.edges.specs.Table.{found}
 use Rattle.sweep.specs.declared.piece.Crossing.{Crossing}
 use Rattle.rowwise.specs.declared.crossing.Ask.{Ask}
@@ -28,7 +26,7 @@ use Rattle.rowwise.specs.Nearest.{none_yet, nearer, meet, between, behind, sides
 
 -- ---- a side of a ring
 
-module _ (q : Ask) (m : Crossing) (e : Edge) {s : KeptSide} (is : s ≡ Kept e) where
+module _ (q : Ask) (m : Crossing) (e : Edge) {s : Option Edge} (is : s ≡ Some e) where
   -- it crosses the row
   pub side_meets : {r : Crossing} → le e.y0 q.y ≡ true → lt q.y e.y1 ≡ true → r ≡ nearer q (e.x0 ⊕ (q.y ⊖ e.y0) ⊗ e.dxdy, cond e.falls (pos 1) (negsuc 0)) m → r ≡ fold (meet q) m (found s)
   unfolding dir

@@ -1,12 +1,13 @@
 // A row's next crossing, from the rings: of all crossings behind an x the nearest, with all that share its x.
-ghost use Rattle.std.specs.Prelude.{◌≡◌, cond, ◌+◌, ◌≤◌, ◌<◌, pos, negsuc, length};
-ghost use Rattle.geom.specs.Outline.{points, rings};
+ghost use Rattle.std.specs.Prelude.{◌≡◌, cond, ◌≤◌, pos, negsuc, length};
+ghost use Rattle.geom.specs.Rings.{rings_of};
 ghost use Rattle.rules.specs.Fill.{edges};
-ghost use Rattle.rules.specs.Drawn.{cross_at};
-ghost use Rattle.edges.specs.Table.{corner, following, found, ring_edges, Outline};
-ghost use Rattle.rowwise.specs.Nearest.{Held, between, none_yet, nearer, Nearer, Gone};
+ghost use Rattle.edges.specs.Table.{found};
+ghost use Rattle.rowwise.specs.Nearest.{Held, between, none_yet, Nearer, Gone};
 
-use edges::side::{corner, following, side};
+use edges::side::kept_side;
+use edges::sides::Sides;
+use geom::{Outline, P};
 use leaves::before;
 use rules::{Edge, Settings};
 use sweep::piece::{Crossing, join, way};
@@ -43,72 +44,43 @@ fn near(q: Ask, x: f64, falls: bool, m: Crossing) -> Crossing
 // A side of a ring, if it is kept and crosses the row.
 fn meet(q: Ask, s: Option<Edge>, m: Crossing) -> Crossing
     requires { Held q m }
-    ensures { Gone q m (found s) 1 result }
+    ensures { Gone q m (found s) (length (found s)) result }
 {
     let Some(e) = s else {
         return m;
     };
-    if e.y0 <= q.y && q.y < e.y1 {
-        near(q, e.x0 + (q.y - e.y0) * e.dxdy, e.falls, m)
-    } else {
-        m
+    if e.y0 <= q.y {
+        if q.y < e.y1 {
+            return near(q, e.x0 + (q.y - e.y0) * e.dxdy, e.falls, m);
+        }
     }
+    m
 }
 
-// Whether row y passes between the ends of the side at place i. Where it doesn't, the side isn't crossed, and no more has to be worked out of it.
-fn passes(l: &[f64], i: usize, g: Settings, y: f64) -> bool
-    requires { i + 1 < length l.now }
-    ensures { result ≡ between y (corner g l.now i).y (corner g l.now (following i (length l.now))).y }
+// Whether row y passes between the ends of a side. Where it doesn't, the side isn't crossed, and no more has to be worked out of it.
+fn passes(a: P, b: P, y: f64) -> bool
+    ensures { result ≡ between y a.y b.y }
 {
-    let a = corner(l, i, g);
-    let b = corner(l, following(i, l.len()), g);
     if y < a.y {
         return !(y < b.y);
     }
     y < b.y
 }
 
-// The sides of one ring.
-fn ring_next(l: &[f64], g: Settings, q: Ask, sofar: Crossing) -> Crossing
-    requires { Held q sofar × (sofar.next + length l.now ≤ 10000) }
-    ensures { Gone q sofar (ring_edges g (points l.now)) (length l.now) result }
-{
-    let n = l.len();
-    if n < 6 {
-        return sofar;
-    }
-    let mut m = sofar;
-    let mut i = 0;
-    while i + 1 < n {
-        if !passes(l, i, g, q.y) {
-            i += 2;
-            continue;
-        }
-        m = meet(q, side(l, i, g), m);
-        i += 2;
-    }
-    m
-}
-
 // The sides of all rings: the next crossing, or none where it passes no side.
-pub fn next_crossing(corners: &[f64], ends: &[usize], g: Settings, q: Ask) -> Crossing
-    requires { Outline corners.now ends.now × (q.at ≤ 5000) }
-    ensures { Gone q (none_yet q.at) (edges g (rings corners.now ends.now)) (length corners.now) result }
+pub fn next_crossing(o: Outline, g: Settings, q: Ask) -> Crossing
+    requires { (length o.corners.now ≤ 2048) × (q.at ≤ 5000) }
+    ensures { Gone q (none_yet q.at) (edges g (rings_of o.entry)) (length o.entry.corners.now) result }
 {
     let mut m = Crossing {
-        x: f64::from_bits(9218868437227405312),
+        x: f64::INFINITY,
         dir: 0,
         next: q.at,
     };
-    let mut a = 0;
-    let mut k = 0;
-    while k < ends.len() {
-        let e = ends[k];
-        let from = 2 * a;
-        let to = 2 * e;
-        m = ring_next(&corners[from..to], g, q, m);
-        a = e;
-        k += 1;
+    for (a, b) in Sides::of(o, g) {
+        if passes(a, b, q.y) {
+            m = meet(q, kept_side(a, b), m);
+        }
     }
     m
 }
