@@ -2,5 +2,6 @@
 pub mod Nearest
 pub mod NearestLaws
 pub mod Rows
+pub mod Pieces
 pub mod RowLaws
 pub mod Examples

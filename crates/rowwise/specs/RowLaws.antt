@@ -1,8 +1,9 @@
 -- A row's pieces from one crossing to the next are those of the row taken alone, and all rows one after the other the fill's. Assumes nothing.
-use Rattle.std.specs.Prelude.{ℕ, ◌+◌, ◌-◌, ◌*◌, ◌≤◌, ◌<◌, ◌≡◌, refl, Bool, true, false, not, ◌&&◌, ◌||◌, cond, ltb, ℤ, pos, take, replicate, Float, Option, Some, None}
+use Rattle.std.specs.Prelude.{ℕ, suc, ◌+◌, ◌-◌, ◌*◌, ◌≤◌, ◌<◌, ◌≡◌, refl, Bool, true, false, not, ◌&&◌, cond, ltb, ℤ, ◌+ℤ◌, pos, take, replicate, Float, Option, Some, None}
 use native.Mathlib.Omega.{arith}
 use Rattle.std.proofs.Math.Path.{sym, ap, subst}
-use Rattle.std.proofs.Common.{◌∙◌, take_at, ltb-false}
+use Rattle.std.proofs.Common.{◌∙◌, take_at, lt-ltb}
+use Rattle.std.proofs.Math.Bool.{or-true}
 use mathlib.Core.List.{List, [], ◌∷◌, ◌++◌, map}
 use Rattle.std.proofs.Math.ListN.{length, length-map}
 use Rattle.std.proofs.lemmas.List.{length-replicate}
@@ -34,7 +35,7 @@ use Rattle.rules.specs.Edges.{within_number, edges_good}
 use Rattle.rules.specs.Rows.{Fair, Plain, plain_none, plain_good, edge_within}
 use Rattle.rules.proofs.Pieces.{met_fair}
 use Rattle.rules.proofs.Sections.{entries_pieces}
-use Rattle.rules.proofs.Gathered.{gathered}
+use Rattle.rules.proofs.Gathered.{gathered, add}
 use Rattle.rules.specs.Drawn.{crosses, cross_at, unsorted}
 use Rattle.rules.proofs.Drawn.{Sound, crossings_gathered}
 use Rattle.edges.specs.Span.{row_number}
@@ -47,11 +48,10 @@ use Rattle.sweep.specs.SweptLaws.{cuts_next, cuts_none, as_pieces, as_piece, add
 use Rattle.sweep.specs.Met.{numbers_met}
 use Rattle.sweep.specs.LaidLaws.{counts_length, wrote_there}
 use Rattle.finding.specs.declared.Plan.{Plan}
-use Rattle.finding.specs.declared.find.Found.{Found}
-use Rattle.finding.specs.Stages.{Passed, alone, fitting}
+use Rattle.finding.specs.Stages.{Passed, alone}
 use Rattle.rowwise.specs.Nearest.{none_yet, meet, behind, sides_behind, Inner, Clear, left_after, row_cuts}
 use Rattle.rowwise.specs.NearestLaws.{gathered_all, nearest_none, nearest_next, nearest_fewer}
-use Rattle.rowwise.specs.Rows.{Next, Stepped, place, Putting, Laid, FindingOf, Holds}
+use Rattle.rowwise.specs.Rows.{Next, Stepped, place, Putting, Laid, plain_floats, plain_wholes, plain_short, Holds}
 
 -- ---- a scan of a row
 
@@ -75,6 +75,36 @@ module _ (c : Cut) (es : List Edge) (clear : Clear c.y es) (s : Scan) (last : Fl
   pub scan_none : x.next ≡ s.at → left_after c es s last ≡ []
   unfolding left_after
   scan_none e = rw (nearest_none (record { y = c.y; after = last; at = s.at }) es clear is e) (cuts_none c s.w s.start)
+
+spans_few : (rule : FillRule) (w : ℤ) (start : Float) (l : List (Float × ℤ)) → length (spans rule w start l) ≤ length l
+unfolding spans
+spans_few rule w start [] = omega arith
+spans_few rule w start (c ∷ l) = go (inside rule w && not (inside rule (w +ℤ c.1))) (start, c.0) (spans rule (w +ℤ c.1) (cond (not (inside rule w) && inside rule (w +ℤ c.1)) c.0 start) l) (spans_few rule (w +ℤ c.1) (cond (not (inside rule w) && inside rule (w +ℤ c.1)) c.0 start) l)
+  where
+    go : (b : Bool) (p : Float × Float) (r : List (Float × Float)) → length r ≤ length l → length (keep_if b p r) ≤ suc (length l)
+    go true p r h = omega arith
+    go false p r h = omega arith
+
+gathered_few : (l : List (Float × ℤ)) → length (gathered l) ≤ length l
+gathered_few [] = omega arith
+gathered_few (c ∷ l) = omega (arith, add_few c.0 c.1 (gathered l), gathered_few l)
+  where
+    add_few : (x : Float) (d : ℤ) (l : List (Float × ℤ)) → length (add x d l) ≤ suc (length l)
+    add_few x d [] = omega arith
+    add_few x d (c ∷ l) = go (before x c.0) (before c.0 x) (add_few x d l)
+      where
+        go : (s t : Bool) → length (add x d l) ≤ suc (length l) → length (cond s ((x, d) ∷ c ∷ l) (cond t (c ∷ add x d l) ((x, d +ℤ c.1) ∷ l))) ≤ suc (suc (length l))
+        go true t h = omega arith
+        go false true h = omega arith
+        go false false h = omega arith
+
+-- a row has no more pieces than there are sides
+pub row_few : (c : Cut) (es : List Edge) → length (row_cuts c es) ≤ length es
+unfolding row_cuts cuts_of behind
+row_few c es =
+    let cs = behind c.y es (inf true) in
+    let ss = spans c.rule (pos 0) zero64 cs in
+    omega (arith, sift_length (wide_span c) (map (cut_ends c) ss), length-map ss (cut_ends c), spans_few c.rule (pos 0) zero64 cs, sift_length (λ c. before (inf true) c.0) (gathered (unsorted c.y es)), gathered_few (unsorted c.y es), length-map (sift (crosses c.y) es) (cross_at c.y), sift_length (crosses c.y) es)
 
 -- what a step says, once it is known which
 module _ (c : Cut) (es : List Edge) (s : Scan) (after : Float) where
@@ -237,7 +267,13 @@ module _ (corners : List Float) (ends : List ℕ) (t : Plan) {n : ℕ} {d d' : L
   pub piece_count : n ≡ pieces
   piece_count = omega (arith, l.pieces.count, flat_count)
 
-  holds : 4 * n ≤ length d' → 6 * n ≤ length a' → length d' ≡ length d → length a' ≡ length a → Holds corners ends t n d' a'
+  pub short_floats : (wholes : ℕ) → length d' < 4 * n → plain_short corners ends t (length d') wholes ≡ true
+  short_floats wholes h = rw (lt-ltb (length d') (plain_floats pieces) (omega (arith, piece_count)))
+
+  pub short_wholes : (floats : ℕ) → length a' < 6 * n → plain_short corners ends t floats (length a') ≡ true
+  short_wholes floats h = rw (lt-ltb (length a') (plain_wholes pieces) (omega (arith, piece_count))) (or-true (ltb floats (plain_floats pieces)))
+
+  pub holds : 4 * n ≤ length d' → 6 * n ≤ length a' → length d' ≡ length d → length a' ≡ length a → Holds corners ends t n d' a'
   holds f k s u =
       let c : n ≡ length flat = omega (arith, l.pieces.count) in
       let b = each_length piece_block 3 (λ q. refl) flat in
@@ -252,11 +288,3 @@ module _ (corners : List Float) (ends : List ℕ) (t : Plan) {n : ℕ} {d d' : L
           counts = take_front (row_counts 0 (alone corners ends t)) _ a' n (omega (arith, c, v)) (wrote_there 0 (row_counts 0 (alone corners ends t)) l.counts (omega (arith, c, v)));
         };
       }
-
-  pub found : (r : Option Found) → r ≡ fitting 0 n (length d') (length a') → length d' ≡ length d → length a' ≡ length a → FindingOf corners ends t d' a' r
-  found r is s u = rw is (go (ltb (length d') (4 * n)) refl (ltb (length a') (6 * n)) refl)
-    where
-      go : (f : Bool) → ltb (length d') (4 * n) ≡ f → (w : Bool) → ltb (length a') (6 * n) ≡ w → FindingOf corners ends t d' a' (cond {A = Option Found} (f || w) None (Some (record { edges = 0; pieces = n })))
-      go true ef w ew = rw (← piece_count, ef)
-      go false ef true ew = rw (← piece_count, ef, ew)
-      go false ef false ew = (refl, holds (ltb-false (length d') (4 * n) ef) (ltb-false (length a') (6 * n) ew) s u)

@@ -1,5 +1,7 @@
 -- What a scan of a row, a row and all rows leave: piece i as a block of three floats at 3·i, its row's count at i. Definitions only.
-use Rattle.std.specs.Prelude.{ℕ, ◌+◌, ◌*◌, ◌≤◌, ◌≡◌, Bool, true, ◌||◌, List, [], ◌∷◌, ltb, nat_abs, length, Float, Option, Some, None}
+use Rattle.std.specs.Prelude.{ℕ, ◌+◌, ◌*◌, ◌≤◌, ◌≡◌, Bool, true, ◌||◌, List, [], ◌∷◌, ltb, nat_abs, length, Float, Option, Some, None, Result, Ok, Err}
+use Rattle.refusal.specs.declared.Refusal.{Refusal}
+use Rattle.refusal.specs.declared.Refusal.TheVariants.{Work}
 use Rattle.seqs.specs.Lists.{each}
 use Rattle.seqs.specs.Slices.{Wrote}
 use Rattle.seqs.specs.Records.{Added}
@@ -71,9 +73,9 @@ pub record Holds (corners : List Float) (ends : List ℕ) (t : Plan) (i : ℕ) (
   pub laid : LaidOut (alone corners ends t) d a i
 
 -- no edge stands in front
-abbrev pub FindingOf : List Float → List ℕ → Plan → List Float → List ℕ → Option Found → Type 0
-FindingOf corners ends t floats wholes None = plain_short corners ends t (length floats) (length wholes) ≡ true
-FindingOf corners ends t floats wholes (Some f) = (f.edges ≡ 0) × Holds corners ends t f.pieces floats wholes
+abbrev pub FindingOf : List Float → List ℕ → Plan → List Float → List ℕ → Result Found Refusal → Type 0
+FindingOf corners ends t floats wholes (Err e) = (e ≡ Work) × (plain_short corners ends t (length floats) (length wholes) ≡ true)
+FindingOf corners ends t floats wholes (Ok f) = (f.edges ≡ 0) × Holds corners ends t f.pieces floats wholes
 
-pub record FoundIn (corners : List Float) (ends : List ℕ) (t : Plan) (floats : List Float) (wholes : List ℕ) (r : Option Found) : Type 0 where
+pub record FoundIn (corners : List Float) (ends : List ℕ) (t : Plan) (floats : List Float) (wholes : List ℕ) (r : Result Found Refusal) : Type 0 where
   pub is : FindingOf corners ends t floats wholes r

@@ -19,7 +19,17 @@ pub meet-m-requires : goal.meet-m-requires
 meet-m-requires c = let o = c.args.o in record { small = c.loop-a.invariant.2; few = omega (arith, c.loop-a.invariant.3, outline_few c.args.g o.corners.now o.ends.now o.laid, c.requires.0, c.requires.1) }
 
 pub loop-a-preserved : goal.loop-a-preserved
-loop-a-preserved c = ?
+loop-a-preserved c =
+    let l = c.loop-a in
+    let q = c.args.q in
+    let later = each kept_side c.next.new.self in
+    let n = length-append (kept_side (c.in-Some.a, c.in-Some.b)) later in
+    let few = rw c.in-Some.ensures.steps at l.invariant.3 in
+    let is = rw c.in-Some.ensures.steps at l.invariant.4 in
+    elim c.if-passes.branch [
+      | then-passes w ↦ ?
+      | else-passes w ↦ ?
+    ]
 
 pub returns : goal.returns
 returns c =
