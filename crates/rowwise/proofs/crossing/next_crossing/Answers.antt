@@ -1,6 +1,6 @@
-use Rattle.std.proofs.Common.{arith, sym, ap, ◌∙◌, length-append}
+use Rattle.std.proofs.Common.{arith, sym, ◌∙◌, length-append}
 use Rattle.std.specs.Float.Ieee.{of_bits}
-use Rattle.seqs.specs.Lists.{each, fold}
+use Rattle.seqs.specs.Lists.{each}
 use Rattle.seqs.specs.Each.{fold_append}
 use Rattle.geom.specs.Rings.{rings_of}
 use Rattle.rules.specs.Fill.{kept_side}
@@ -9,7 +9,6 @@ use Rattle.edges.specs.SidesLaws.{edges_kept}
 use Rattle.rowwise.specs.Nearest.{meet}
 use Rattle.rowwise.specs.NearestLaws.{passed_over}
 use Rattle.rowwise.proofs.crossing.next_crossing.Goals as goal
-use Rattle.rowwise.proofs.crossing.next_crossing.Goals.{then-passes, else-passes}
 
 pub loop-a-init : goal.loop-a-init
 unfolding of_bits
@@ -22,14 +21,20 @@ pub loop-a-preserved : goal.loop-a-preserved
 loop-a-preserved c =
     let l = c.loop-a in
     let q = c.args.q in
+    let side = kept_side (c.in-Some.a, c.in-Some.b) in
     let later = each kept_side c.next.new.self in
-    let n = length-append (kept_side (c.in-Some.a, c.in-Some.b)) later in
     let few = rw c.in-Some.ensures.steps at l.invariant.3 in
-    let is = rw c.in-Some.ensures.steps at l.invariant.4 in
-    elim c.if-passes.branch [
-      | then-passes w ↦ ?
-      | else-passes w ↦ ?
-    ]
+    (tt, tt, l.invariant.2, omega (arith, length-append side later, few), passed_over q l.m c.in-Some.a c.in-Some.b later (sym c.passes.ensures ∙ c.if-passes.false) ∙ (rw c.in-Some.ensures.steps at l.invariant.4))
+
+pub loop-a-preserved-then-passes : goal.loop-a-preserved-then-passes
+loop-a-preserved-then-passes c =
+    let l = c.loop-a in
+    let q = c.args.q in
+    let side = kept_side (c.in-Some.a, c.in-Some.b) in
+    let later = each kept_side c.next.new.self in
+    let few = rw c.in-Some.ensures.steps at l.invariant.3 in
+    let m = rw c.kept_side.ensures at c.meet-m.ensures.few in
+    (tt, tt, c.meet-m.ensures.small, omega (arith, length-append side later, few, m), rw (c.meet-m.ensures.is, c.kept_side.ensures) (sym (fold_append (meet q) l.m side later) ∙ (rw c.in-Some.ensures.steps at l.invariant.4)))
 
 pub returns : goal.returns
 returns c =

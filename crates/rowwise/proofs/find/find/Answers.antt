@@ -12,4 +12,4 @@ returns-then-floats-pieces c =
     ]
 
 pub returns : goal.returns
-returns c = let t = c.args.t in record { is = holds t.outline.corners.now t.outline.ends.now t c.all_rows-pieces.ensures (search rules) (search rules) (search rules) (search rules) }
+returns c = let t = c.args.t in record { is = (refl, holds t.outline.corners.now t.outline.ends.now t c.all_rows-pieces.ensures (search rules) (search rules) (search rules) (search rules)) }

@@ -11,7 +11,7 @@ pub cut_at-c-requires : goal.cut_at-c-requires
 cut_at-c-requires c = (spans_rows c.args.t.outline.corners.now c.args.t.outline.ends.now c.args.t (passed c.args.t), c.loop-r-test.true)
 
 pub put_pieces-m-requires : goal.put_pieces-m-requires
-put_pieces-m-requires c = (outlined c.args.t.outline.corners.now c.args.t.outline.ends.now c.args.t (passed c.args.t), rowing_clear c.args.t.outline.corners.now c.args.t.outline.ends.now c.args.t (passed c.args.t) c.loop-r.invariant c.loop-r-test.true c.cut_at-c.ensures, few_edges c.args.t.outline.corners.now c.args.t.outline.ends.now c.args.t (passed c.args.t), omega (arith, c.loop-r.invariant.bound, c.loop-r.invariant.le, (spans_rows c.args.t.outline.corners.now c.args.t.outline.ends.now c.args.t (passed c.args.t)).few))
+put_pieces-m-requires c = ((outlined c.args.t.outline.corners.now c.args.t.outline.ends.now c.args.t (passed c.args.t)).few, rowing_clear c.args.t.outline.corners.now c.args.t.outline.ends.now c.args.t (passed c.args.t) c.loop-r.invariant c.loop-r-test.true c.cut_at-c.ensures, few_edges c.args.t.outline.corners.now c.args.t.outline.ends.now c.args.t (passed c.args.t), omega (arith, c.loop-r.invariant.bound, c.loop-r.invariant.le, (spans_rows c.args.t.outline.corners.now c.args.t.outline.ends.now c.args.t (passed c.args.t)).few))
 
 pub overflow_sub-m : goal.overflow_sub-m
 overflow_sub-m c = omega (arith, c.put_pieces-m.ensures.added.count)
