@@ -17,10 +17,6 @@ pub record Railed (pts cum : List Float) : Type 0 where
   pub twice : length pts ≡ 2 * length cum
   pub rising : Rising cum
 
--- the running lengths of a flat rail's corners after the first
-abbrev pub later_lengths : List Float → List Float
-later_lengths pts = lengths_from zero64 (corner_at pts 0) (points (drop 2 pts))
-
 -- how many at the front do not lie beyond s
 unfoldable pub not_beyond : Float → List Float → ℕ
 not_beyond s [] = 0

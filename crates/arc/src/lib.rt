@@ -5,40 +5,30 @@ ghost use Rattle.std.specs.Prelude.{◌≡◌, ◌+◌, ◌*◌, ◌<◌, ◌≤
 ghost use Rattle.seqs.specs.Slices.{put};
 ghost use Rattle.geom.specs.Outline.{points};
 ghost use Rattle.satinrules.specs.Arc.{lengths, clamp, partition_point, side_end, fraction, on_side, at};
-ghost use Rattle.arc.specs.Rail.{Rising, Railed, later_lengths, not_beyond};
+ghost use Rattle.arc.specs.Rail.{Rising, Railed, not_beyond};
 
 use geom::P;
+use geom::flat::Points;
 use geom::sewing::corner;
-
-// The running lengths of the corners after the first, from k on.
-fn put_later_lengths(out: &mut [f64], k: usize, pts: &[f64])
-    requires { (2 ≤ length pts.now) × (k + length (later_lengths pts.now) ≤ length out.old) }
-    ensures { out.new ≡ put out.old k (later_lengths pts.now) }
-{
-    let mut p = corner(pts, 0);
-    let mut s = 0.0;
-    let mut to = k;
-    let mut i = 2;
-    while i + 1 < pts.len() {
-        let q = corner(pts, i);
-        s = s + p.dist(q);
-        out[to] = s;
-        p = q;
-        to += 1;
-        i += 2;
-    }
-}
 
 // The running lengths of a rail's corners, from k on.
 pub fn put_lengths(out: &mut [f64], k: usize, pts: &[f64])
     requires { k + length (lengths (points pts.now)) ≤ length out.old }
     ensures { out.new ≡ put out.old k (lengths (points pts.now)) }
 {
-    if pts.len() < 2 {
+    let mut corners = Points::of(pts);
+    let Some(mut p) = corners.next() else {
         return;
-    }
+    };
     out[k] = 0.0;
-    put_later_lengths(out, k + 1, pts);
+    let mut s = 0.0;
+    let mut to = k + 1;
+    for q in corners {
+        s += p.dist(q);
+        out[to] = s;
+        p = q;
+        to += 1;
+    }
 }
 
 // How many at the front are at most s, by bisection.

@@ -5,7 +5,7 @@ use mathlib.Core.Path.{◌≡◌, refl, ap, ◌∙◌}
 use mathlib.Core.List.{List, [], ◌∷◌, ◌++◌}
 use lib.ListN.{length, take, drop}
 use lib.Ieee.{Float}
-use Rattle.seqs.specs.Front.{Front, front_at}
+use Rattle.seqs.specs.Front.{Front, front_from, front_at}
 use Rattle.seqs.specs.Slices.{put}
 use Rattle.seqs.specs.Put.{put_length}
 use Rattle.seqs.specs.Wrote.{put_room}
@@ -16,8 +16,8 @@ use Rattle.geom.specs.Sewing.{flat}
 use Rattle.geom.specs.SewingLaws.{points_room, points_put}
 use Rattle.satinrules.specs.Column.{sides_from, sides, part_end, parts_from}
 use Rattle.satinrules.specs.Flat.{flat_then}
-use Rattle.styles.specs.Sides.{side_to, later_sides}
-use Rattle.styles.specs.SidesLaws.{sides_next, path_put, parts_size, parts_next}
+use Rattle.styles.specs.Sides.{side_to}
+use Rattle.styles.specs.SidesLaws.{sides_start, sides_next, parts_size, parts_next}
 
 -- the end of part j of n is next
 module _ {d₀ d : List Float} {to : ℕ} (k : ℕ) (p q : P) (n : ℕ) (shift : Float) (j : ℕ)
@@ -35,21 +35,28 @@ module _ {d₀ d : List Float} {to : ℕ} (k : ℕ) (p q : P) (n : ℕ) (shift :
   pub part_put : (y : List Float) → y ≡ put d to (flat (part_end p q n shift j ∷ [])) → Front d₀ y (to + 2) (flat (parts_from p q n shift (j + 1) (n - (j + 1)))) (take k d₀ ++ flat (parts_from p q n shift 1 (n - 1)))
   part_put y e = points_put (part_end p q n shift j ∷ []) (parts_from p q n shift (j + 1) (n - (j + 1))) part_up room y e
 
--- side s from p to corner i is next
-module _ {d₀ d : List Float} {to : ℕ} (h : ℕ → P → P → List P) (k : ℕ) (l : List Float) (s : ℕ) (p : P) (i : ℕ)
-    (f : Front d₀ d to (flat (sides_from h s p (points (drop i l)))) (take k d₀ ++ flat (later_sides h l)))
-    (fits : k + length (flat (later_sides h l)) ≤ length d₀) (more : i + 1 < length l) where
-  side_up : Front d₀ d to (flat (side_to h s p (corner_at l i) ++ sides_from h (s + 1) (corner_at l i) (points (drop (i + 2) l)))) (take k d₀ ++ flat (later_sides h l))
-  side_up = front_at (ap flat (sides_next h l s p i more)) f
+-- the first corner of ps is put
+module _ (h : ℕ → P → P → List P) (d : List Float) (k : ℕ) {ps rest : List P} {p : P} (fits : k + length (flat (sides h ps)) ≤ length d) (e : ps ≡ p ∷ rest) where
+  first_up : Front d d k (flat ((p ∷ []) ++ sides_from h 0 p rest)) (take k d ++ flat (sides h ps))
+  first_up = front_at (ap flat (sides_start h e)) (front_from d (flat (sides h ps)) k (omega (arith, fits)))
 
-  whole : length (take k d₀ ++ flat (later_sides h l)) ≤ length d₀
-  whole = put_room d₀ (flat (later_sides h l)) k fits
+  pub first_room : k + 2 ≤ length d
+  first_room = omega (arith, points_room (p ∷ []) (sides_from h 0 p rest) first_up (put_room d (flat (sides h ps)) k fits))
 
-  pub side_room : to + 2 * length (side_to h s p (corner_at l i)) ≤ length d
-  side_room = points_room (side_to h s p (corner_at l i)) (sides_from h (s + 1) (corner_at l i) (points (drop (i + 2) l))) side_up whole
+  pub first_put : (y : List Float) → y ≡ put d k (flat (p ∷ [])) → Front d y (k + 2) (flat (sides_from h 0 p rest)) (take k d ++ flat (sides h ps))
+  first_put y g = points_put (p ∷ []) (sides_from h 0 p rest) first_up (put_room d (flat (sides h ps)) k fits) y g
 
-  pub side_put : (y : List Float) → y ≡ put d to (flat (side_to h s p (corner_at l i))) → Front d₀ y (to + 2 * length (side_to h s p (corner_at l i))) (flat (sides_from h (s + 1) (corner_at l i) (points (drop (i + 2) l)))) (take k d₀ ++ flat (later_sides h l))
-  side_put y e = points_put (side_to h s p (corner_at l i)) (sides_from h (s + 1) (corner_at l i) (points (drop (i + 2) l))) side_up whole y e
+-- side s from p to q is next
+module _ (h : ℕ → P → P → List P) {d₀ d whole : List Float} {to : ℕ} (s : ℕ) (p q : P) (ps : List P)
+    (f : Front d₀ d to (flat (sides_from h s p (q ∷ ps))) whole) (fits : length whole ≤ length d₀) where
+  side_up : Front d₀ d to (flat (side_to h s p q ++ sides_from h (s + 1) q ps)) whole
+  side_up = front_at (ap flat (sides_next h s p q ps)) f
+
+  pub side_room : to + 2 * length (side_to h s p q) ≤ length d
+  side_room = points_room (side_to h s p q) (sides_from h (s + 1) q ps) side_up fits
+
+  pub side_put : (y : List Float) → y ≡ put d to (flat (side_to h s p q)) → Front d₀ y (to + 2 * length (side_to h s p q)) (flat (sides_from h (s + 1) q ps)) whole
+  side_put y e = points_put (side_to h s p q) (sides_from h (s + 1) q ps) side_up fits y e
 
 -- a point that is put leaves the slice as long as it was
 pub point_size : (d d₁ : List Float) (a : P) (to : ℕ) → d₁ ≡ put d to (flat (a ∷ [])) → to + 2 ≤ length d → length d₁ ≡ length d
@@ -61,7 +68,3 @@ pub three_put : (d d₁ d₂ y : List Float) (a b q : P) (to : ℕ) → to + 6 �
 three_put d d₁ d₂ y a b q to h e f g =
     let two : d₂ ≡ put d to (flat (a ∷ b ∷ [])) = flat_then d d₁ (a ∷ []) (b ∷ []) to (omega arith) e d₂ (to + 2) refl f in
     flat_then d d₂ (a ∷ b ∷ []) (q ∷ []) to h two y (to + 4) refl g
-
--- the first corner and then the sides leave the slice as long as it was
-pub sides_size : (f : ℕ → P → P → List P) (l : List Float) → 1 < length l → (d d₁ y : List Float) (k : ℕ) → k + length (flat (sides f (points l))) ≤ length d → d₁ ≡ put d k (flat (corner_at l 0 ∷ [])) → y ≡ put d₁ (k + 2) (flat (later_sides f l)) → length y ≡ length d
-sides_size f l h d d₁ y k fits e g = ap length (path_put f l h d d₁ y k fits e g) ∙ put_length d (flat (sides f (points l))) k fits

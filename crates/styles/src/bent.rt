@@ -1,17 +1,18 @@
 // The s form: each stitch longer than 6 becomes three, the middle one pushed sideways, to alternate sides.
 ghost use Rattle.std.specs.Prelude.{◌≡◌, cond, ◌+◌, ◌*◌, ◌^◌, ◌<◌, ◌≤◌, length};
-ghost use Rattle.refusal.specs.Sewn.{sewn, output};
+ghost use Rattle.refusal.specs.Sewn.{said_sewn, sewn, output};
 ghost use Rattle.seqs.specs.Slices.{put, capped};
 ghost use Rattle.geom.specs.Outline.{points};
 ghost use Rattle.geom.specs.Sewing.{flat, fitted};
 ghost use Rattle.satinrules.specs.Column.{bend, bends, s_side, s_stitch};
-ghost use Rattle.styles.specs.Sides.{side_to, later_sides};
+ghost use Rattle.styles.specs.Sides.{side_to};
 
 use geom::P;
-use geom::sewing::{add_within, corner, put_point};
+use geom::flat::Points;
+use geom::sewing::{add_within, put_point};
 use leaves::quick::root;
 use leaves::smaller;
-use refusal::{DONE, ROOM, Sewn};
+use refusal::Refusal;
 
 // How far side k is pushed sideways. Direction and length take one root.
 fn bend(k: u64, p: P, q: P) -> P
@@ -69,38 +70,16 @@ pub fn count_bent(line: &[f64], room: u64) -> u64
     requires { room < 2 ^ 63 }
     ensures { result ≡ capped room (length (s_stitch (points line.now))) }
 {
-    if line.len() < 2 {
+    let mut corners = Points::of(line);
+    let Some(mut p) = corners.next() else {
         return 0;
-    }
-    let mut p = corner(line, 0);
+    };
     let mut c: u64 = 1;
-    let mut i = 2;
-    while i + 1 < line.len() {
-        let q = corner(line, i);
+    for q in corners {
         c = add_within(c, count_side(p, q), room);
         p = q;
-        i += 2;
     }
     c
-}
-
-// The points of all sides, from k on; answers the place after them.
-fn put_sides(out: &mut [f64], k: usize, line: &[f64]) -> usize
-    requires { (1 < length line.now) × (k + length (flat (later_sides s_side line.now)) ≤ length out.old) }
-    ensures { (out.new ≡ put out.old k (flat (later_sides s_side line.now))) × (result ≡ k + length (flat (later_sides s_side line.now))) }
-{
-    let mut p = corner(line, 0);
-    let mut to = k;
-    let mut side: u64 = 0;
-    let mut i = 2;
-    while i + 1 < line.len() {
-        let q = corner(line, i);
-        to = put_side(out, to, side, p, q);
-        p = q;
-        side += 1;
-        i += 2;
-    }
-    to
 }
 
 // The bent path from k on; answers the place after it.
@@ -108,35 +87,34 @@ pub fn put_bent(out: &mut [f64], k: usize, line: &[f64]) -> usize
     requires { k + length (flat (s_stitch (points line.now))) ≤ length out.old }
     ensures { (out.new ≡ put out.old k (flat (s_stitch (points line.now)))) × (result ≡ k + length (flat (s_stitch (points line.now)))) }
 {
-    if line.len() < 2 {
+    let mut corners = Points::of(line);
+    let Some(mut p) = corners.next() else {
         return k;
+    };
+    put_point(out, k, p);
+    let mut to = k + 2;
+    let mut side: u64 = 0;
+    for q in corners {
+        to = put_side(out, to, side, p, q);
+        p = q;
+        side += 1;
     }
-    put_point(out, k, corner(line, 0));
-    put_sides(out, k + 2, line)
+    to
 }
 
 // The bent path to the front of out, or ROOM and nothing. Three points a side and one more are the most: where they have room, nothing is counted first.
-pub fn s_stitch(line: &[f64], out: &mut [f64]) -> Sewn
-    ensures { (result ≡ sewn (fitted (s_stitch (points line.now)) (length out.old)) (length (s_stitch (points line.now)))) × (out.new ≡ output (fitted (s_stitch (points line.now)) (length out.old)) (flat (s_stitch (points line.now))) out.old) }
+pub fn s_stitch(line: &[f64], out: &mut [f64]) -> Result<u64, Refusal>
+    ensures { (said_sewn result ≡ sewn (fitted (s_stitch (points line.now)) (length out.old)) (length (s_stitch (points line.now)))) × (out.new ≡ output (fitted (s_stitch (points line.now)) (length out.old)) (flat (s_stitch (points line.now))) out.old) }
 {
     if line.len() / 2 <= (out.len() / 2 + 2) / 3 {
         let end = put_bent(out, 0, line);
-        return Sewn {
-            answer: DONE,
-            points: (end / 2) as u64,
-        };
+        return Ok((end / 2) as u64);
     }
     let room = (out.len() / 2) as u64;
     let points = count_bent(line, room);
     if points > room {
-        return Sewn {
-            answer: ROOM,
-            points: 0,
-        };
+        return Err(Refusal::Room);
     }
     put_bent(out, 0, line);
-    Sewn {
-        answer: DONE,
-        points: points,
-    }
+    Ok(points)
 }

@@ -1,6 +1,6 @@
 // Auto-split: stitches longer than max are broken, the split points staggered from stitch to stitch.
 ghost use Rattle.std.specs.Prelude.{◌≡◌, [], ◌∷◌, ◌++◌, ◌+◌, ◌-◌, ◌*◌, ◌^◌, ◌<◌, ◌≤◌, length};
-ghost use Rattle.refusal.specs.Sewn.{sewn, output};
+ghost use Rattle.refusal.specs.Sewn.{said_sewn, sewn, output};
 ghost use Rattle.seqs.specs.Slices.{put, capped};
 ghost use Rattle.geom.specs.Outline.{points};
 ghost use Rattle.numbers.specs.Root.{root};
@@ -9,14 +9,15 @@ ghost use Rattle.geom.specs.Steps.{steps};
 ghost use Rattle.geom.specs.Sewing.{flat, fitted};
 ghost use Rattle.polyline.specs.Cuts.{square_steps};
 ghost use Rattle.satinrules.specs.Column.{stagger, part_end, parts_from, split_side, split_long};
-ghost use Rattle.styles.specs.Sides.{side_to, later_sides};
+ghost use Rattle.styles.specs.Sides.{side_to};
 
 use geom::P;
-use geom::sewing::{corner, put_point};
+use geom::flat::Points;
+use geom::sewing::put_point;
 use leaves::of_u64;
 use polyline::alike::{known, learnt, pieces_of};
 use polyline::cuts::root_steps;
-use refusal::{DONE, ROOM, Sewn};
+use refusal::Refusal;
 
 // The stagger of side k: 0, 0.33 or -0.33.
 fn stagger(k: u64) -> f64
@@ -78,21 +79,19 @@ pub fn count_split(line: &[f64], max: f64, room: u64) -> u64
     requires { room < 2 ^ 63 }
     ensures { result ≡ capped room (length (split_long (points line.now) max)) }
 {
-    if line.len() < 2 {
+    let mut corners = Points::of(line);
+    let Some(mut p) = corners.next() else {
         return 0;
-    }
+    };
     if room == 0 {
         return 1;
     }
-    let mut p = corner(line, 0);
     let one = pieces_of(1, max);
     let two = pieces_of(2, max);
     let mut s = two;
     let mut m: u64 = 0;
     let mut c: u64 = 1;
-    let mut i = 2;
-    while i + 1 < line.len() {
-        let q = corner(line, i);
+    for q in corners {
         let v = p.minus(q);
         let d = v.dot(v);
         let told = known(d, one, two, s);
@@ -104,26 +103,27 @@ pub fn count_split(line: &[f64], max: f64, room: u64) -> u64
         s = learnt(told, n, m, max, s);
         m = n;
         p = q;
-        i += 2;
     }
     c
 }
 
-// The points of all sides, from k on; answers the place after them.
-fn put_sides(out: &mut [f64], k: usize, line: &[f64], max: f64) -> usize
-    requires { (1 < length line.now) × (k + length (flat (later_sides (split_side max) line.now)) ≤ length out.old) }
-    ensures { (out.new ≡ put out.old k (flat (later_sides (split_side max) line.now))) × (result ≡ k + length (flat (later_sides (split_side max) line.now))) }
+// The split path from k on; answers the place after it.
+pub fn put_split(out: &mut [f64], k: usize, line: &[f64], max: f64) -> usize
+    requires { k + length (flat (split_long (points line.now) max)) ≤ length out.old }
+    ensures { (out.new ≡ put out.old k (flat (split_long (points line.now) max))) × (result ≡ k + length (flat (split_long (points line.now) max))) }
 {
-    let mut p = corner(line, 0);
+    let mut corners = Points::of(line);
+    let Some(mut p) = corners.next() else {
+        return k;
+    };
+    put_point(out, k, p);
     let one = pieces_of(1, max);
     let two = pieces_of(2, max);
     let mut s = two;
     let mut m: u64 = 0;
-    let mut to = k;
+    let mut to = k + 2;
     let mut side: u64 = 0;
-    let mut i = 2;
-    while i + 1 < line.len() {
-        let q = corner(line, i);
+    for q in corners {
         let v = p.minus(q);
         let d = v.dot(v);
         let told = known(d, one, two, s);
@@ -133,38 +133,19 @@ fn put_sides(out: &mut [f64], k: usize, line: &[f64], max: f64) -> usize
         m = n;
         p = q;
         side += 1;
-        i += 2;
     }
     to
 }
 
-// The split path from k on; answers the place after it.
-pub fn put_split(out: &mut [f64], k: usize, line: &[f64], max: f64) -> usize
-    requires { k + length (flat (split_long (points line.now) max)) ≤ length out.old }
-    ensures { (out.new ≡ put out.old k (flat (split_long (points line.now) max))) × (result ≡ k + length (flat (split_long (points line.now) max))) }
-{
-    if line.len() < 2 {
-        return k;
-    }
-    put_point(out, k, corner(line, 0));
-    put_sides(out, k + 2, line, max)
-}
-
 // The split path to the front of out, or ROOM and nothing.
-pub fn split_long(line: &[f64], max: f64, out: &mut [f64]) -> Sewn
-    ensures { (result ≡ sewn (fitted (split_long (points line.now) max) (length out.old)) (length (split_long (points line.now) max))) × (out.new ≡ output (fitted (split_long (points line.now) max) (length out.old)) (flat (split_long (points line.now) max)) out.old) }
+pub fn split_long(line: &[f64], max: f64, out: &mut [f64]) -> Result<u64, Refusal>
+    ensures { (said_sewn result ≡ sewn (fitted (split_long (points line.now) max) (length out.old)) (length (split_long (points line.now) max))) × (out.new ≡ output (fitted (split_long (points line.now) max) (length out.old)) (flat (split_long (points line.now) max)) out.old) }
 {
     let room = (out.len() / 2) as u64;
     let points = count_split(line, max, room);
     if points > room {
-        return Sewn {
-            answer: ROOM,
-            points: 0,
-        };
+        return Err(Refusal::Room);
     }
     put_split(out, 0, line, max);
-    Sewn {
-        answer: DONE,
-        points: points,
-    }
+    Ok(points)
 }

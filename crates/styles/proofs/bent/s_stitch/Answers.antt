@@ -1,4 +1,6 @@
 -- `s_stitch` meets its contract: three points a side and one more have room, or what is counted up to the room is what the room is compared with. Assumes nothing.
+use Rattle.std.proofs.Common.{ℕ, ap}
+use Rattle.refusal.specs.Refusal.{DONE}
 use mathlib.Core.Path.{◌≡◌, refl, sym}
 use Prim.Native.Nat.{ℕ, ◌/◌, ◌+◌, ◌≤◌}
 use native.Mathlib.Omega.{arith}
@@ -27,7 +29,7 @@ returns-then-line-out c =
     let m = s_stitch (points a.line.now) in
     let h = within a.line.now (length a.out.now) c.if-line-out.true in
     let n : c.put_bent-end.result / 2 ≡ length m = omega (arith, c.put_bent-end.ensures.1, flat_length m) in
-    rw (is_fitted m (length a.out.now) (sym (capped_in (length a.out.now / 2) (length m) h)) h) (rw n, c.put_bent-end.ensures.0)
+    rw (is_fitted m (length a.out.now) (sym (capped_in (length a.out.now / 2) (length m) h)) h) (ap (λ (n : ℕ). record { answer = DONE; points = n }) n, c.put_bent-end.ensures.0)
 
 pub returns-then-points-room : goal.returns-then-points-room
 returns-then-points-room c =
@@ -43,4 +45,4 @@ pub returns : goal.returns
 returns c =
     let a = c.args in
     let m = s_stitch (points a.line.now) in
-    rw (is_fitted m (length a.out.now) c.count_bent-points.ensures c.if-points-room.false) (rw (counted m (length a.out.now) c.count_bent-points.ensures c.if-points-room.false), c.put_bent.ensures.0)
+    rw (is_fitted m (length a.out.now) c.count_bent-points.ensures c.if-points-room.false) (ap (λ (n : ℕ). record { answer = DONE; points = n }) (counted m (length a.out.now) c.count_bent-points.ensures c.if-points-room.false), c.put_bent.ensures.0)

@@ -1,46 +1,69 @@
--- `put_split` meets its contract: the first corner, and then the sides. Assumes nothing.
-use native.Mathlib.Omega.{arith}
+-- `put_split` meets its contract: the sides that the iterator has left are still to be put. Assumes nothing.
+use Rattle.std.proofs.Common.{arith, rules, sym, ap, ◌∙◌, ◌≡◌, ◌+◌, length}
+use Rattle.std.specs.Float.Ieee.{Float}
 use Rattle.seqs.specs.Put.{put_none}
+use Rattle.seqs.specs.Front.{front_at}
+use Rattle.seqs.specs.Wrote.{put_room, put_end}
+use Rattle.geom.specs.Steps.{steps}
+use Rattle.geom.specs.Outline.{points}
+use Rattle.geom.specs.OutlineLaws.{points_length}
+use Rattle.geom.specs.Sewing.{flat}
 use Rattle.geom.specs.SewingLaws.{flat_none}
-use Rattle.satinrules.specs.Column.{split_side, split_long}
-use Rattle.styles.specs.SidesLaws.{sides_none, path_size, path_put}
-use Rattle.styles.proofs.Turns.{point_size, sides_size}
-use borrow.Author.Rules.{rules}
+use Rattle.polyline.specs.AlikeLaws.{root_dist}
+use Rattle.satinrules.specs.Column.{sides_from, s_side, s_stitch, split_side, split_long}
+use Rattle.styles.specs.SidesLaws.{sides_none, sides_over}
+use Rattle.styles.proofs.Turns.{first_room, first_put, side_room, side_put}
 use Rattle.styles.proofs.split.put_split.Goals as goal
 
-pub returns-then-line-lt2 : goal.returns-then-line-lt2
+pub returns-in_default : goal.returns-in_default
 unfolding split_long
-returns-then-line-lt2 c =
-    let a = c.args in
-    let e = flat_none (sides_none (split_side a.max) a.line.now (search rules)) in
-    rw e (put_none a.out.now a.k (omega (arith, c.requires)), omega arith)
+returns-in_default c =
+    let e = flat_none (sides_none (split_side c.args.max) (sym c.of-corners.ensures ∙ c.in_default.ensures.steps.0)) in
+    rw e (put_none c.args.out.now c.args.k (omega (arith, c.requires)), omega arith)
 
 pub put_point-requires : goal.put_point-requires
 unfolding split_long
-put_point-requires c = omega (arith, c.requires, path_size (split_side c.args.max) c.args.line.now (search rules))
+put_point-requires c = omega (arith, first_room (split_side c.args.max) c.args.out.now c.args.k c.requires (sym c.of-corners.ensures ∙ c.in-Some.ensures.steps))
 
-pub overflow_add-k : goal.overflow_add-k
+pub overflow_add-to : goal.overflow_add-to
 unfolding split_long
-overflow_add-k c = omega (arith, c.requires, c.well_formed, path_size (split_side c.args.max) c.args.line.now (search rules))
+overflow_add-to c = omega (arith, first_room (split_side c.args.max) c.args.out.now c.args.k c.requires (sym c.of-corners.ensures ∙ c.in-Some.ensures.steps), c.well_formed)
 
-pub put_sides-requires : goal.put_sides-requires
+pub loop-q-init : goal.loop-q-init
 unfolding split_long
-put_sides-requires c =
+loop-q-init c =
+    let e = sym c.of-corners.ensures ∙ c.in-Some.ensures.steps in
+    rw c.into_iter-q-iterator.ensures.into_iter_gives (omega (arith, ap length e), first_put (split_side c.args.max) c.args.out.now c.args.k c.requires e _ c.put_point.ensures, c.pieces_of-two.ensures.0)
+
+pub points_of-n-requires : goal.points_of-n-requires
+points_of-n-requires c = c.known-told.ensures c.args.max c.pieces_of-one.ensures.0 c.pieces_of-two.ensures.0 c.loop-q.invariant.2
+
+pub learnt-s-requires : goal.learnt-s-requires
+learnt-s-requires c = c.loop-q.invariant.2
+
+pub put_side-to-requires : goal.put_side-to-requires
+put_side-to-requires c =
     let a = c.args in
-    let s = path_size (split_side a.max) a.line.now (search rules) in
-    (search rules, omega (arith, c.requires, s, point_size _ _ _ a.k c.put_point.ensures (omega (arith, c.requires, s))))
+    let l = c.loop-q in
+    let f = front_at (ap (λ ps. flat (sides_from (split_side c.args.max) l.side l.p ps)) c.in-Some-q.ensures.steps) l.invariant.1 in
+    (c.points_of-n.ensures ∙ ap (λ (r : Float). steps r a.max) (root_dist l.p c.in-Some-q.q _ _ c.minus-v.ensures c.dot-d.ensures), side_room (split_side c.args.max) l.side l.p c.in-Some-q.q c.next-in-loop-q.new.self f (put_room a.out.now (flat (split_long (points a.line.now) a.max)) a.k c.requires))
+
+pub overflow_add-side : goal.overflow_add-side
+overflow_add-side c = omega (arith, c.loop-q.invariant.0, points_length c.args.line.now, c.well_formed)
+
+pub loop-q-preserved : goal.loop-q-preserved
+loop-q-preserved c =
+    let a = c.args in
+    let l = c.loop-q in
+    let n = rw c.in-Some-q.ensures.steps at l.invariant.0 in
+    let f = front_at (ap (λ ps. flat (sides_from (split_side c.args.max) l.side l.p ps)) c.in-Some-q.ensures.steps) l.invariant.1 in
+    (omega (arith, n), rw c.put_side-to.ensures.1 (side_put (split_side c.args.max) l.side l.p c.in-Some-q.q c.next-in-loop-q.new.self f (put_room a.out.now (flat (split_long (points a.line.now) a.max)) a.k c.requires) _ c.put_side-to.ensures.0), c.learnt-s.ensures)
 
 pub shape_of-out : goal.shape_of-out
-unfolding split_long
-shape_of-out c =
-    let a = c.args in
-    let s = path_size (split_side a.max) a.line.now (search rules) in
-    let e = rw c.corner.ensures at c.put_point.ensures in
-    sides_size (split_side a.max) a.line.now (search rules) _ _ _ a.k c.requires e c.put_sides.ensures.0
+shape_of-out c = c.loop-q.invariant.1.len
 
 pub returns : goal.returns
-unfolding split_long
 returns c =
     let a = c.args in
-    let e = rw c.corner.ensures at c.put_point.ensures in
-    (path_put (split_side a.max) a.line.now (search rules) a.out.now _ _ a.k c.requires e c.put_sides.ensures.0, omega (arith, c.put_sides.ensures.1, path_size (split_side a.max) a.line.now (search rules)))
+    let l = c.loop-q in
+    put_end (flat (split_long (points a.line.now) a.max)) a.k (omega (arith, c.requires)) (front_at (flat_none (sides_over (split_side c.args.max) l.side l.p c.in-None.ensures.steps.0)) l.invariant.1)

@@ -1,4 +1,6 @@
 -- `split_long` meets its contract: what is counted up to the room is what the room is compared with. Assumes nothing.
+use Rattle.std.proofs.Common.{ℕ, ap}
+use Rattle.refusal.specs.Refusal.{DONE}
 use mathlib.Core.Path.{refl}
 use native.Mathlib.Omega.{arith}
 use lib.ListN.{length}
@@ -21,4 +23,4 @@ pub returns : goal.returns
 returns c =
     let a = c.args in
     let m = split_long (points a.line.now) a.max in
-    rw (is_fitted m (length a.out.now) c.count_split-points.ensures c.if-points-room.false) (rw (counted m (length a.out.now) c.count_split-points.ensures c.if-points-room.false), c.put_split.ensures.0)
+    rw (is_fitted m (length a.out.now) c.count_split-points.ensures c.if-points-room.false) (ap (λ (n : ℕ). record { answer = DONE; points = n }) (counted m (length a.out.now) c.count_split-points.ensures c.if-points-room.false), c.put_split.ensures.0)
