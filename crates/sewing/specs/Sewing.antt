@@ -14,7 +14,7 @@ use Rattle.geom.specs.declared.point.P.{P}
 use Rattle.geom.specs.Point.{point, rotate, lerp}
 use Rattle.rules.specs.declared.Settings.{Settings}
 use Rattle.rules.specs.declared.Entry.{Entry}
-use Rattle.rules.specs.Fill.{how_many, offset, section, row_points, sew_from}
+use Rattle.rules.specs.Fill.{how_many, offset, section, row_points, sew_from, sewn}
 use Rattle.sewing.specs.declared.Field.{Field}
 use Rattle.sewing.specs.declared.row.Row.{Row}
 use Rattle.sewing.specs.declared.stitch.Limits.{Limits}
@@ -204,3 +204,10 @@ sewn_from g stagger pen es = back g.cosine g.sine (sew_from g pen (each (row_poi
 -- a row, sewn from the pen and turned back
 abbrev pub row_sewn : Settings → P → Row → List P
 row_sewn g pen w = back g.cosine g.sine (sew_to g.len pen (targets g.len w 0 (w.n + 2)))
+
+-- section s of the pieces, sewn, and the first n of them
+abbrev pub section_sewn : Field → List Float → List ℕ → ℕ → List P
+section_sewn f floats wholes s = sewn f.g f.stagger (section (entries_in f floats wholes) s)
+
+abbrev pub first_sewn : Field → List Float → List ℕ → ℕ → List (List P)
+first_sewn f floats wholes n = map (sewn f.g f.stagger) (first_sections (entries_in f floats wholes) n)

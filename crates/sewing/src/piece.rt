@@ -1,12 +1,21 @@
 // A piece read from the working slices, as the row that is sewn.
 ghost use Rattle.std.specs.Prelude.{◌≡◌, ◌+◌, ◌*◌, ◌<◌, ◌≤◌, length};
-ghost use Rattle.sewing.specs.Sewing.{entry_at, start_of, row_of, Near, phase_of};
+ghost use Rattle.sewing.specs.Sewing.{entry_at, start_of, row_of, Near, phase_of, Linked};
 
-use crate::Field;
 use crate::row::{Row, row_of};
 use crate::thread::Thread;
 use geom::P;
 use leaves::of_u64;
+
+// Pieces that are linked: `sections` sections of them, and what all their rows share.
+#[derive(Clone, Copy)]
+pub struct Pieces<'a> {
+    pub floats: &'a [f64],
+    pub wholes: &'a [usize],
+    pub thread: &'a Thread,
+    pub sections: usize,
+    pub ghost linked: { Linked thread.now.field sections floats.now wholes.now },
+}
 
 // The place of row r in the stagger's cycle.
 fn phase(t: &Thread, r: usize) -> u64
@@ -21,44 +30,38 @@ fn phase(t: &Thread, r: usize) -> u64
     }
 }
 
-// Where piece j's row starts.
-pub fn start_at(floats: &[f64], wholes: &[usize], f: Field, j: usize) -> P
-    requires { (3 * f.pieces ≤ length floats.now) × (3 * f.pieces ≤ length wholes.now) }
-    ensures { j < f.pieces → result ≡ start_of (entry_at f floats.now wholes.now j) }
-{
-    let n = f.pieces;
-    if j < n {
-        if wholes[n + 2 * j + 1] % 2 == 0 {
-            return P {
-                x: floats[3 * j + 1],
-                y: floats[3 * j],
-            };
+impl<'a> Pieces<'a> {
+    // Where piece j's row starts.
+    pub fn start(self, j: usize) -> P
+        requires { j < self.thread.now.field.pieces }
+        ensures { result ≡ start_of (entry_at self.entry.thread.now.field self.entry.floats.now self.entry.wholes.now j) }
+    {
+        let n = self.thread.field.pieces;
+        let forward = self.wholes[n + 2 * j + 1] % 2 == 0;
+        P {
+            x: self.floats[if forward { 3 * j + 1 } else { 3 * j + 2 }],
+            y: self.floats[3 * j],
         }
-        return P {
-            x: floats[3 * j + 2],
-            y: floats[3 * j],
-        };
     }
-    P { x: 0.0, y: 0.0 }
-}
 
-// Piece j's row.
-pub fn row_at(floats: &[f64], wholes: &[usize], t: &Thread, j: usize) -> Row
-    requires { (j < t.now.field.pieces) × (3 * t.now.field.pieces ≤ length floats.now) × (3 * t.now.field.pieces ≤ length wholes.now) }
-    ensures { (result ≡ row_of t.now.field.g t.now.field.stagger (entry_at t.now.field floats.now wholes.now j)) × Near result }
-{
-    let n = t.field.pieces;
-    let len = t.field.g.len;
-    let p = phase(t, wholes[j]);
-    let off = of_u64(p) * len / of_u64(t.cycle);
-    let forward = wholes[n + 2 * j + 1] % 2 == 0;
-    row_of(
-        len,
-        t.margin,
-        off,
-        floats[3 * j],
-        floats[3 * j + 1],
-        floats[3 * j + 2],
-        forward,
-    )
+    // Piece j's row.
+    pub fn row(self, j: usize) -> Row
+        requires { j < self.thread.now.field.pieces }
+        ensures { (result ≡ row_of self.entry.thread.now.field.g self.entry.thread.now.field.stagger (entry_at self.entry.thread.now.field self.entry.floats.now self.entry.wholes.now j)) × Near result }
+    {
+        let t = self.thread;
+        let len = t.field.g.len;
+        let p = phase(t, self.wholes[j]);
+        let off = of_u64(p) * len / of_u64(t.cycle);
+        let forward = self.wholes[t.field.pieces + 2 * j + 1] % 2 == 0;
+        row_of(
+            len,
+            t.margin,
+            off,
+            self.floats[3 * j],
+            self.floats[3 * j + 1],
+            self.floats[3 * j + 2],
+            forward,
+        )
+    }
 }

@@ -8,7 +8,6 @@ use Rattle.seqs.specs.Lists.{each}
 use Rattle.seqs.specs.Capped.{capped_in, capped_over, capped_exact, capped_past}
 use Rattle.rules.specs.Fill.{sewn, section}
 use Rattle.sewing.specs.Sewing.{entries_in, first_sections}
-use Rattle.sewing.specs.LinkedLaws.{linked_less}
 use Rattle.sewing.proofs.Walks.{all_start, all_none, all_count}
 use borrow.Author.Rules.{rules}
 use Rattle.sewing.proofs.section.count.Goals as goal
@@ -17,7 +16,7 @@ pub loop-s-init : goal.loop-s-init
 loop-s-init c = (search rules, omega (arith, ap (λ y. length (each (λ x. x) y)) (all_start c.args.t.now.field.g c.args.t.now.field.stagger (entries_in c.args.t.now.field c.args.floats.now c.args.wholes.now) c.args.sections)))
 
 pub count_section-c-requires : goal.count_section-c-requires
-count_section-c-requires c = (linked_less c.args.t.now.field c.args.sections (c.loop-s.s + 1) c.args.floats.now c.args.wholes.now (omega arith) c.requires.0, c.loop-s.invariant.0, c.requires.1)
+count_section-c-requires c = (omega arith, c.loop-s.invariant.0, c.requires.1)
 
 pub returns-then-c-cap : goal.returns-then-c-cap
 returns-then-c-cap c =

@@ -9,7 +9,6 @@ use Rattle.geom.specs.SewingLaws.{flat_none}
 use Rattle.rules.specs.Fill.{sewn, section}
 use Rattle.rules.specs.Calls.{sewn_points, sewn_ends}
 use Rattle.sewing.specs.Sewing.{entries_in}
-use Rattle.sewing.specs.LinkedLaws.{linked_less}
 use Rattle.sewing.proofs.Walks.{sewn_rest, all_start, all_none, all_flat, all_ends, ends_none}
 use borrow.Author.Rules.{rules}
 use Rattle.sewing.proofs.section.write.Goals as goal
@@ -28,7 +27,7 @@ put_section-at-requires c =
     let m = flat (sewn a.t.now.field.g a.t.now.field.stagger (section es l.s)) in
     let rest = flat (each (λ x. x) (sewn_rest a.t.now.field.g a.t.now.field.stagger es (l.s + 1) a.sections)) in
     let d = front_at (all_flat a.t.now.field.g a.t.now.field.stagger es l.s a.sections (search rules)) l.invariant.0 in
-    (linked_less a.t.now.field a.sections (l.s + 1) a.floats.now a.wholes.now (omega arith) c.requires.0, front_room_block m rest d c.requires.1)
+    (omega arith, front_room_block m rest d c.requires.1)
 
 pub bounds-ends-s : goal.bounds-ends-s
 bounds-ends-s c = omega (arith, c.loop-s.invariant.1.len, c.requires.2)
