@@ -14,7 +14,7 @@ use Rattle.geom.specs.declared.point.P.{P}
 use Rattle.geom.specs.Point.{point}
 use Rattle.geom.specs.Outline.{points, cut}
 use Rattle.geom.specs.OutlineLaws.{corner_at, points_length, points_at, cut_next, cut_none}
-use Rattle.salvage.specs.declared.ring.Last.TheVariants.{Nothing}
+use Rattle.std.specs.Prelude.{None}
 use Rattle.salvage.specs.Ring.{CLOSING, left, same, strays, closes, closed, few, cleared, ring_marks}
 use Rattle.salvage.specs.RingLaws.{count, first_kept, last_kept, left_count, mark_last_set, first_less, last_less, closes_at, closes_not, strays_length, closed_length}
 use Rattle.salvage.specs.OutlineLaws.{counted_ends}
@@ -47,9 +47,9 @@ module _ (cs : List Float) (ms : List ℕ) (h : length cs ≡ 2 * length ms) whe
     unfolding closed
     closing_other e = rw (is_closed ∙ e)
 
-module _ (ps : List P) (a b : List ℕ) (e : a ≡ strays Nothing ps) (f : b ≡ closed ps a) where
+module _ (ps : List P) (a b : List ℕ) (e : a ≡ strays None ps) (f : b ≡ closed ps a) where
   left_two : length (left b ps) ≡ count b
-  left_two = left_count b ps (ap length f ∙ closed_length ps a ∙ ap length e ∙ strays_length Nothing ps)
+  left_two = left_count b ps (ap length f ∙ closed_length ps a ∙ ap length e ∙ strays_length None ps)
 
   both : cleared ps b ≡ ring_marks ps
   unfolding ring_marks

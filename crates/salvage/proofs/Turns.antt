@@ -9,9 +9,8 @@ use lib.Ieee.{Float}
 use borrow.Author.Tests.{ne_eqb}
 use Rattle.seqs.specs.Front.{next, none}
 use Rattle.geom.specs.Outline.{points}
-use Rattle.geom.specs.OutlineLaws.{corner_at, points_next, points_end}
-use Rattle.salvage.specs.declared.ring.Last.{Last}
-use Rattle.salvage.specs.Ring.{left, stray, after, strays, few}
+use Rattle.geom.specs.OutlineLaws.{corner_at, points_next}
+use Rattle.salvage.specs.Ring.{left, few}
 use Rattle.salvage.specs.Salvage.{dropped_places, dropped_reasons}
 use Rattle.salvage.specs.RingLaws.{count, first_kept, last_kept}
 
@@ -92,10 +91,6 @@ module _ (cs : List Float) (i : ℕ) where
     corners_next : points (drop (2 * i) cs) ≡ corner_at cs (2 * i) ∷ points (drop (2 * (i + 1)) cs)
     corners_next = let e : 2 * (i + 1) ≡ 2 * i + 2 = omega arith in rw e (points_next cs (2 * i) h)
 
-    pub strays_turn : (last : Last) → strays last (points (drop (2 * i) cs)) ≡ stray last (corner_at cs (2 * i)) ∷ strays (after last (stray last (corner_at cs (2 * i))) (corner_at cs (2 * i))) (points (drop (2 * (i + 1)) cs))
-    unfolding strays
-    strays_turn last = rw corners_next
-
     module _ (ms : List ℕ) (k : i < length ms) where
       pub left_kept : get_or ms i 0 ≡ 0 → left (drop i ms) (points (drop (2 * i) cs)) ≡ (corner_at cs (2 * i) ∷ []) ++ left (drop (i + 1) ms) (points (drop (2 * (i + 1)) cs))
       unfolding left
@@ -104,10 +99,6 @@ module _ (cs : List Float) (i : ℕ) where
       pub left_dropped : (get_or ms i 0 ≡ 0 → ⊥) → left (drop i ms) (points (drop (2 * i) cs)) ≡ left (drop (i + 1) ms) (points (drop (2 * (i + 1)) cs))
       unfolding left
       left_dropped n = rw (next ms i 0 k, corners_next, ne_eqb (get_or ms i 0) 0 n)
-
-  pub strays_end : length cs ≤ 2 * i → (last : Last) → strays last (points (drop (2 * i) cs)) ≡ []
-  unfolding strays
-  strays_end h last = rw (points_end cs (2 * i) (omega arith))
 
 pub left_end : (cs : List Float) (ms : List ℕ) (i : ℕ) → length ms ≤ i → left (drop i ms) (points (drop (2 * i) cs)) ≡ []
 unfolding left

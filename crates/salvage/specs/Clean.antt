@@ -8,18 +8,17 @@ use Rattle.numbers.specs.Order.{finite, magnitude}
 use Rattle.seqs.specs.Tests.{either, clash, refute, and_both}
 use Rattle.geom.specs.declared.point.P.{P}
 use Rattle.limits.specs.Limits.{largest, good_number, good_point}
-use Rattle.salvage.specs.declared.ring.Last.{Last}
-use Rattle.salvage.specs.declared.ring.Last.TheVariants.{Nothing, Corner}
+use Rattle.std.specs.Prelude.{Option, None, Some}
 use Rattle.salvage.specs.Ring.{kept, left, same, finite_point, repeats, stray, strays, last_of, closes, mark_last, closed, few, cleared, ring_marks, kept_ring}
 use Rattle.salvage.specs.RingLaws.{count, strays_length, left_all, left_count, left_none}
 
 -- each corner good, and not the one before it
-abbrev pub Apart : Last → List P → Type 0
+abbrev pub Apart : Option P → List P → Type 0
 Apart last [] = Unit
-Apart last (p ∷ ps) = (good_point p ≡ true) × (repeats last p ≡ false) × Apart (Corner p) ps
+Apart last (p ∷ ps) = (good_point p ≡ true) × (repeats last p ≡ false) × Apart (Some p) ps
 
 pub record Clean (ps : List P) : Type 0 where
-  pub apart : Apart Nothing ps
+  pub apart : Apart None ps
   pub opens : closes ps ≡ false
   pub enough : (ps ≡ []) ⊎ (3 ≤ length ps)
 
@@ -31,11 +30,11 @@ good_finite p g =
     let b = and_both (good_number p.x) (good_number p.y) g in
     rw ((and_both (finite p.x) (le (magnitude p.x) largest) b.0).0, (and_both (finite p.y) (le (magnitude p.y) largest) b.1).0)
 
-stray_none : (last : Last) (p : P) → good_point p ≡ true → repeats last p ≡ false → stray last p ≡ 0
+stray_none : (last : Option P) (p : P) → good_point p ≡ true → repeats last p ≡ false → stray last p ≡ 0
 unfolding stray
 stray_none last p g r = rw (good_finite p g, g, r)
 
-stray_good : (last : Last) (p : P) → kept (stray last p) ≡ true → (good_point p ≡ true) × (repeats last p ≡ false)
+stray_good : (last : Option P) (p : P) → kept (stray last p) ≡ true → (good_point p ≡ true) × (repeats last p ≡ false)
 unfolding stray
 stray_good last p k = elim (either (finite_point p)) [
   | inl f ↦ elim (either (good_point p)) [
@@ -48,18 +47,18 @@ stray_good last p k = elim (either (finite_point p)) [
   | inr f ↦ clash k (rw f)
 ]
 
-strays_apart : (last : Last) (ps : List P) → Apart last (left (strays last ps) ps)
+strays_apart : (last : Option P) (ps : List P) → Apart last (left (strays last ps) ps)
 unfolding left strays
 strays_apart last [] = tt
 strays_apart last (p ∷ ps) = elim (either (kept (stray last p))) [
-  | inl e ↦ let g = stray_good last p e in rw e (g.0, g.1, strays_apart (Corner p) ps)
+  | inl e ↦ let g = stray_good last p e in rw e (g.0, g.1, strays_apart (Some p) ps)
   | inr e ↦ rw e (strays_apart last ps)
 ]
 
-apart_strays : (last : Last) (ps : List P) → Apart last ps → strays last ps ≡ replicate (length ps) 0
+apart_strays : (last : Option P) (ps : List P) → Apart last ps → strays last ps ≡ replicate (length ps) 0
 unfolding strays
 apart_strays last [] h = refl
-apart_strays last (p ∷ ps) h = rw (stray_none last p h.0 h.1) (ap (λ r. 0 ∷ r) (apart_strays (Corner p) ps h.2))
+apart_strays last (p ∷ ps) h = rw (stray_none last p h.0 h.1) (ap (λ r. 0 ∷ r) (apart_strays (Some p) ps h.2))
 
 -- ---- the second
 
@@ -94,10 +93,10 @@ left_opened : (ps : List P) (ms : List ℕ) → length ms ≡ length ps → left
 unfolding closed opened
 left_opened ps ms h = elim (either (closes (left ms ps))) [ inl e ↦ rw e (left_init ms ps h) | inr e ↦ rw e ]
 
-apart_init : (last : Last) (ps : List P) → Apart last ps → Apart last (init ps)
+apart_init : (last : Option P) (ps : List P) → Apart last ps → Apart last (init ps)
 apart_init last [] h = tt
 apart_init last (p ∷ []) h = tt
-apart_init last (p ∷ q ∷ ps) h = (h.0, h.1, apart_init (Corner p) (q ∷ ps) h.2)
+apart_init last (p ∷ q ∷ ps) h = (h.0, h.1, apart_init (Some p) (q ∷ ps) h.2)
 
 same_join : (p a b : P) → same p a ≡ true → same p b ≡ true → same a b ≡ true
 unfolding same
@@ -108,12 +107,12 @@ same_join p a b h k =
     (eq-eqb (to_bits binary64 a.y) (to_bits binary64 b.y) (sym (eqb-true (to_bits binary64 p.y) (to_bits binary64 a.y) u.1) ∙ eqb-true (to_bits binary64 p.y) (to_bits binary64 b.y) v.1))
 
 -- the last differs from the one before it
-last_apart : (q r : P) (rs : List P) → Apart (Corner q) (r ∷ rs) → same (last_of q (init (r ∷ rs))) (last_of r rs) ≡ false
+last_apart : (q r : P) (rs : List P) → Apart (Some q) (r ∷ rs) → same (last_of q (init (r ∷ rs))) (last_of r rs) ≡ false
 last_apart q r [] h = h.1
 last_apart q r (s ∷ rs) h = last_apart r s rs h.2
 
 -- so what is left without a last corner equal to the first has no such corner
-init_open : (ps : List P) → Apart Nothing ps → closes ps ≡ true → closes (init ps) ≡ false
+init_open : (ps : List P) → Apart None ps → closes ps ≡ true → closes (init ps) ≡ false
 unfolding closes
 init_open [] h e = clash e refl
 init_open (p ∷ []) h e = clash e refl
@@ -121,9 +120,9 @@ init_open (p ∷ q ∷ []) h e = refl
 init_open (p ∷ q ∷ r ∷ rs) h e =
     refute (same p (last_of q (init (r ∷ rs)))) (λ t. clash (same_join p (last_of q (init (r ∷ rs))) (last_of r rs) t e) (last_apart q r rs h.2.2))
 
-opened_apart : (ps : List P) → Apart Nothing ps → Apart Nothing (opened ps) × (closes (opened ps) ≡ false)
+opened_apart : (ps : List P) → Apart None ps → Apart None (opened ps) × (closes (opened ps) ≡ false)
 unfolding opened
-opened_apart ps h = elim (either (closes ps)) [ inl e ↦ rw e (apart_init Nothing ps h, init_open ps h e) | inr e ↦ rw e (h, e) ]
+opened_apart ps h = elim (either (closes ps)) [ inl e ↦ rw e (apart_init None ps h, init_open ps h e) | inr e ↦ rw e (h, e) ]
 
 -- ---- the third
 
@@ -140,17 +139,17 @@ left_whole ps ms = elim (either (leb 3 (length (left ms ps)))) [ inl e ↦ rw e 
 
 -- ---- all three
 
-pub kept_is : (ps : List P) → kept_ring ps ≡ whole (opened (left (strays Nothing ps) ps))
+pub kept_is : (ps : List P) → kept_ring ps ≡ whole (opened (left (strays None ps) ps))
 unfolding kept_ring ring_marks
 kept_is ps =
-    let a = strays Nothing ps in
-    left_whole ps (closed ps a) ∙ ap whole (left_opened ps a (strays_length Nothing ps))
+    let a = strays None ps in
+    left_whole ps (closed ps a) ∙ ap whole (left_opened ps a (strays_length None ps))
 
 none_clean : Clean []
 unfolding closes
 none_clean = record { apart = tt; opens = refl; enough = inl refl }
 
-whole_clean : (ps : List P) → Apart Nothing ps → closes ps ≡ false → Clean (whole ps)
+whole_clean : (ps : List P) → Apart None ps → closes ps ≡ false → Clean (whole ps)
 unfolding whole
 whole_clean ps h o = elim (either (leb 3 (length ps))) [
   | inl e ↦ rw e (record { apart = h; opens = o; enough = inr (leb-true 3 (length ps) e) })
@@ -159,8 +158,8 @@ whole_clean ps h o = elim (either (leb 3 (length ps))) [
 
 pub kept_clean : (ps : List P) → Clean (kept_ring ps)
 kept_clean ps =
-    let h = opened_apart (left (strays Nothing ps) ps) (strays_apart Nothing ps) in
-    rw (kept_is ps) (whole_clean (opened (left (strays Nothing ps) ps)) h.0 h.1)
+    let h = opened_apart (left (strays None ps) ps) (strays_apart None ps) in
+    rw (kept_is ps) (whole_clean (opened (left (strays None ps) ps)) h.0 h.1)
 
 stays_open : (ps : List P) → closes ps ≡ false → opened ps ≡ ps
 unfolding opened
@@ -172,4 +171,4 @@ stays_whole ps h = elim h [ inl e ↦ rw e | inr k ↦ rw (le-leb 3 (length ps) 
 
 pub clean_kept : (ps : List P) → Clean ps → kept_ring ps ≡ ps
 clean_kept ps c =
-    kept_is ps ∙ ap (λ r. whole (opened r)) (rw (apart_strays Nothing ps c.apart) (left_all ps)) ∙ ap whole (stays_open ps c.opens) ∙ stays_whole ps c.enough
+    kept_is ps ∙ ap (λ r. whole (opened r)) (rw (apart_strays None ps c.apart) (left_all ps)) ∙ ap whole (stays_open ps c.opens) ∙ stays_whole ps c.enough

@@ -1,5 +1,5 @@
 -- What is dropped of a ring, and why: a mark for each corner, 0 where it is kept, else the number of the first reason. Definitions only.
-use Rattle.std.specs.Prelude.{ℕ, Bool, false, not, ◌&&◌, cond, List, [], ◌∷◌, map, leb, eqb, length}
+use Rattle.std.specs.Prelude.{ℕ, Bool, false, not, ◌&&◌, cond, List, [], ◌∷◌, map, leb, eqb, length, Option, None, Some}
 use Rattle.std.specs.Float.{binary64}
 use Rattle.std.specs.Float.Ieee.{to_bits}
 use Rattle.numbers.specs.Order.{finite}
@@ -7,8 +7,6 @@ use Rattle.refusal.specs.Refusal.{unless, ◌then◌}
 use Rattle.seqs.specs.Lists.{keep_if, sift}
 use Rattle.geom.specs.declared.point.P.{P}
 use Rattle.limits.specs.Limits.{good_point}
-use Rattle.salvage.specs.declared.ring.Last.{Last}
-use Rattle.salvage.specs.declared.ring.Last.TheVariants.{Nothing, Corner}
 
 -- ---- the marks
 
@@ -44,19 +42,19 @@ same p q = eqb (to_bits binary64 p.x) (to_bits binary64 q.x) && eqb (to_bits bin
 abbrev pub finite_point : P → Bool
 finite_point p = finite p.x && finite p.y
 
-abbrev pub repeats : Last → P → Bool
-repeats Nothing p = false
-repeats (Corner q) p = same q p
+abbrev pub repeats : Option P → P → Bool
+repeats None p = false
+repeats (Some q) p = same q p
 
 -- the first that applies
-unfoldable pub stray : Last → P → ℕ
+unfoldable pub stray : Option P → P → ℕ
 stray last p = unless NOT-FINITE (finite_point p) then unless BEYOND (good_point p) then unless REPEATED (not (repeats last p))
 
 -- the last kept corner after p, which has the mark m
-abbrev pub after : Last → ℕ → P → Last
-after last m p = cond (kept m) (Corner p) last
+abbrev pub after : Option P → ℕ → P → Option P
+after last m p = cond (kept m) (Some p) last
 
-unfoldable pub strays : Last → List P → List ℕ
+unfoldable pub strays : Option P → List P → List ℕ
 strays last [] = []
 strays last (p ∷ ps) = stray last p ∷ strays (after last (stray last p) p) ps
 
@@ -90,7 +88,7 @@ cleared ps ms = cond (leb 3 (length (left ms ps))) ms (map few ms)
 -- ---- all three
 
 unfoldable pub ring_marks : List P → List ℕ
-ring_marks ps = cleared ps (closed ps (strays Nothing ps))
+ring_marks ps = cleared ps (closed ps (strays None ps))
 
 unfoldable pub kept_ring : List P → List P
 kept_ring ps = left (ring_marks ps) ps

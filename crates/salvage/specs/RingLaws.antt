@@ -1,4 +1,5 @@
 -- What is proved of a ring's marks: how many there are, what is left by them, and the places of the first and the last that is kept. Assumes nothing.
+use Rattle.std.specs.Prelude.{Option, None}
 use Prim.Native.Nat.{ℕ, suc, ◌+◌, ◌≤◌, ◌<◌}
 use Rattle.std.proofs.Common.{arith, ◌∙◌}
 use Rattle.std.specs.Prelude.{◌≡◌, true, false, ◌&&◌, cond, eqb, leb, length, get_or, set, replicate}
@@ -10,7 +11,6 @@ use borrow.Author.Tests.{eqb-true, eqb-false}
 use Rattle.seqs.specs.Lists.{sift}
 use Rattle.seqs.specs.Tests.{either}
 use Rattle.geom.specs.declared.point.P.{P}
-use Rattle.salvage.specs.declared.ring.Last.{Last}
 use Rattle.salvage.specs.Ring.{CLOSING, kept, left, same, stray, after, strays, last_of, closes, mark_last, closed, few, cleared, ring_marks}
 
 -- how many are kept
@@ -19,7 +19,7 @@ count ms = length (sift kept ms)
 
 -- ---- one mark a corner
 
-pub strays_length : (last : Last) (ps : List P) → length (strays last ps) ≡ length ps
+pub strays_length : (last : Option P) (ps : List P) → length (strays last ps) ≡ length ps
 unfolding strays
 strays_length last [] = refl
 strays_length last (p ∷ ps) = ap suc (strays_length (after last (stray last p) p) ps)
@@ -39,7 +39,7 @@ cleared_length ps ms = elim (either (leb 3 (length (left ms ps)))) [ inl e ↦ r
 
 pub marks_length : (ps : List P) → length (ring_marks ps) ≡ length ps
 unfolding ring_marks
-marks_length ps = cleared_length ps (closed ps (strays Last.Nothing ps)) ∙ closed_length ps (strays Last.Nothing ps) ∙ strays_length Last.Nothing ps
+marks_length ps = cleared_length ps (closed ps (strays None ps)) ∙ closed_length ps (strays None ps) ∙ strays_length None ps
 
 -- ---- what is left
 

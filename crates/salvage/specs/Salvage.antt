@@ -1,13 +1,14 @@
 -- A whole outline salvaged: what is dropped, what is left, and all that the call leaves behind. Definitions only.
-use Rattle.std.specs.Prelude.{ℕ, ◌+◌, Bool, not, ◌&&◌, cond, List, [], ◌∷◌, map, leb, eqb, length, Float}
-use Rattle.refusal.specs.Refusal.{DONE, LAYOUT, ROOM, unless, ◌then◌}
+use Rattle.std.specs.Prelude.{ℕ, ◌+◌, Bool, not, ◌&&◌, cond, List, [], ◌∷◌, map, leb, eqb, length, Float, Result, Ok, Err}
+use Rattle.refusal.specs.Refusal.{DONE, LAYOUT, ROOM, number, unless, ◌then◌}
+use Rattle.refusal.specs.declared.Refusal.{Refusal}
 use Rattle.refusal.specs.Sewn.{output}
 use Rattle.seqs.specs.Lists.{keep_if, sift, each}
 use Rattle.geom.specs.declared.point.P.{P}
 use Rattle.geom.specs.Outline.{rings}
 use Rattle.geom.specs.Sewing.{flat}
 use Rattle.limits.specs.Limits.{good_outline}
-use Rattle.salvage.specs.declared.Salvaged.{Salvaged}
+use Rattle.salvage.specs.declared.Counts.{Counts}
 use Rattle.salvage.specs.Ring.{kept, ring_marks, kept_ring}
 
 -- ---- what is dropped, in place order: marks of the corners from place i on
@@ -50,6 +51,16 @@ fits corners ends cs es ps rs =
 
 unfoldable pub salvage_answer : List Float → List ℕ → ℕ → ℕ → ℕ → ℕ → ℕ
 salvage_answer corners ends cs es ps rs = unless LAYOUT (good_outline corners ends) then unless ROOM (fits corners ends cs es ps rs)
+
+-- what the call says: a number of document 01's table, how many corners are kept and how many dropped; none after a refusal
+pub record Salvaged : Type 0 where
+  pub answer : ℕ
+  pub corners : ℕ
+  pub dropped : ℕ
+
+abbrev pub said_salvaged : Result Counts Refusal → Salvaged
+said_salvaged (Ok c) = record { answer = DONE; corners = c.corners; dropped = c.dropped }
+said_salvaged (Err e) = record { answer = number e; corners = 0; dropped = 0 }
 
 -- what it says, by its number n
 abbrev pub said : ℕ → ℕ → ℕ → Salvaged

@@ -18,8 +18,7 @@ use Rattle.geom.specs.Sewing.{flat}
 use Rattle.geom.specs.SewingLaws.{flat_length, points_flat}
 use Rattle.limits.specs.Limits.{good_number, good_point, good_numbers, good_outline}
 use Rattle.limits.specs.LimitsLaws.{outline_layout}
-use Rattle.salvage.specs.declared.ring.Last.{Last}
-use Rattle.salvage.specs.declared.ring.Last.TheVariants.{Nothing, Corner}
+use Rattle.std.specs.Prelude.{Option, None, Some}
 use Rattle.salvage.specs.Ring.{kept, left, ring_marks, kept_ring}
 use Rattle.salvage.specs.Salvage.{marks, dropped_places, dropped_reasons, kept_rings, ring_ends, kept_corners, kept_ends, fits, salvage_answer, said, outcome, outcome_by, salvage_outcome}
 use Rattle.salvage.specs.RingLaws.{marks_length}
@@ -72,14 +71,14 @@ apart_numbers (p ∷ ps) rest h k =
     let b = and_both (good_number p.x) (good_number p.y) h.0 in
     rw (b.0, b.1) (apart_numbers ps rest h.1 k)
 
-apart_good : (last : Last) (ps : List P) → Apart last ps → All (λ p. good_point p ≡ true) ps
+apart_good : (last : Option P) (ps : List P) → Apart last ps → All (λ p. good_point p ≡ true) ps
 apart_good last [] h = tt
-apart_good last (p ∷ ps) h = (h.0, apart_good (Corner p) ps h.2)
+apart_good last (p ∷ ps) h = (h.0, apart_good (Some p) ps h.2)
 
 rings_numbers : (rs : List (List P)) → good_numbers (flat (join (map kept_ring rs))) ≡ true
 unfolding good_numbers flat
 rings_numbers [] = refl
-rings_numbers (r ∷ rs) = apart_numbers (kept_ring r) (join (map kept_ring rs)) (apart_good Nothing (kept_ring r) (kept_clean r).apart) (rings_numbers rs)
+rings_numbers (r ∷ rs) = apart_numbers (kept_ring r) (join (map kept_ring rs)) (apart_good None (kept_ring r) (kept_clean r).apart) (rings_numbers rs)
 
 pub kept_numbers : (corners : List Float) (ends : List ℕ) → good_numbers (kept_corners corners ends) ≡ true
 unfolding kept_corners kept_rings

@@ -3,22 +3,22 @@
 
 ghost use Rattle.std.specs.Prelude.{◌≡◌, true, ◌&&◌, ◌*◌, ◌≤◌, leb, length};
 ghost use Rattle.limits.specs.Limits.{good_outline};
-ghost use Rattle.salvage.specs.Salvage.{marks as marks_of, fits, outcome, outcome_by, salvage_outcome};
+ghost use Rattle.salvage.specs.Salvage.{marks as marks_of, fits, said_salvaged, outcome, outcome_by, salvage_outcome};
 ghost use Rattle.refusal.specs.Refusal.{ROOM as ROOM-NUMBER, unless};
 
-pub mod outline;
+pub mod marking;
 pub mod ring;
 pub mod writing;
 
-use crate::outline::mark_outline;
+use crate::marking::mark_outline;
 use crate::writing::{count_kept, put_corners, put_dropped, put_ends};
-use limits::{MOST_CORNERS, good_outline};
-use refusal::{DONE, LAYOUT, ROOM};
+use geom::Outline;
+use limits::{MOST_CORNERS, outline};
+use refusal::Refusal;
 
-// What the call says: a number of document 01's table, how many corners are kept and how many dropped; none after a refusal.
+// How many corners are kept and how many dropped.
 #[derive(Clone, Copy)]
-pub struct Salvaged {
-    pub answer: u64,
+pub struct Counts {
     pub corners: u64,
     pub dropped: u64,
 }
@@ -41,46 +41,41 @@ fn has_room(
 
 // By the marks: ROOM is decided before anything is written.
 fn written(
-    corners: &[f64],
-    ends: &[usize],
+    o: Outline,
     marks: &[usize],
     keep: &mut [f64],
     stops: &mut [usize],
     places: &mut [usize],
     reasons: &mut [usize],
-) -> Salvaged
-    requires { (good_outline corners.now ends.now ≡ true) × (marks.now ≡ marks_of corners.now ends.now) }
-    ensures { outcome result keep.new stops.new places.new reasons.new ≡ outcome_by (unless ROOM-NUMBER (fits corners.now ends.now (length keep.old) (length stops.old) (length places.old) (length reasons.old))) corners.now ends.now keep.old stops.old places.old reasons.old }
+) -> Result<Counts, Refusal>
+    requires { (good_outline o.corners.now o.ends.now ≡ true) × (marks.now ≡ marks_of o.corners.now o.ends.now) }
+    ensures { outcome (said_salvaged result) keep.new stops.new places.new reasons.new ≡ outcome_by (unless ROOM-NUMBER (fits o.entry.corners.now o.entry.ends.now (length keep.old) (length stops.old) (length places.old) (length reasons.old))) o.entry.corners.now o.entry.ends.now keep.old stops.old places.old reasons.old }
 {
     let kept = count_kept(marks);
     let dropped = marks.len() - kept;
     if !has_room(
         kept,
-        ends.len(),
+        o.ends.len(),
         dropped,
         keep.len(),
         stops.len(),
         places.len(),
         reasons.len(),
     ) {
-        return Salvaged {
-            answer: ROOM,
-            corners: 0,
-            dropped: 0,
-        };
+        return Err(Refusal::Room);
     }
-    put_corners(corners, marks, keep);
-    put_ends(ends, marks, stops);
+    put_corners(o.corners, marks, keep);
+    put_ends(o.ends, marks, stops);
     put_dropped(marks, places, reasons);
-    Salvaged {
-        answer: DONE,
+    Ok(Counts {
         corners: kept as u64,
         dropped: dropped as u64,
-    }
+    })
 }
 
 // The kept corners, x before y, to the front of `keep`, and where each ring ends, in corners, to the front of `stops`;
 // the place of each dropped corner to the front of `places`, and why it was dropped to the front of `reasons`.
+#[tactic(auto, unfolding(crate::specs::Salvage::salvage_answer, crate::specs::Salvage::salvage_outcome, crate::specs::Salvage::outcome_by))]
 pub fn salvage(
     corners: &[f64],
     ends: &[usize],
@@ -88,18 +83,12 @@ pub fn salvage(
     stops: &mut [usize],
     places: &mut [usize],
     reasons: &mut [usize],
-) -> Salvaged
-    ensures { outcome result keep.new stops.new places.new reasons.new ≡ salvage_outcome corners.now ends.now keep.old stops.old places.old reasons.old }
+) -> Result<Counts, Refusal>
+    ensures { outcome (said_salvaged result) keep.new stops.new places.new reasons.new ≡ salvage_outcome corners.now ends.now keep.old stops.old places.old reasons.old }
 {
-    if !good_outline(corners, ends) {
-        return Salvaged {
-            answer: LAYOUT,
-            corners: 0,
-            dropped: 0,
-        };
-    }
+    let o = outline(corners, ends)?;
     let n = corners.len() / 2;
     let mut marks = [0usize; MOST_CORNERS];
-    mark_outline(corners, ends, &mut marks[..n]);
-    written(corners, ends, &marks[..n], keep, stops, places, reasons)
+    mark_outline(o, &mut marks[..n]);
+    written(o, &marks[..n], keep, stops, places, reasons)
 }

@@ -1,11 +1,12 @@
 // What is dropped of a ring, and why: a mark for each corner.
-ghost use Rattle.std.specs.Prelude.{◌≡◌, map, ◌*◌, length};
+ghost use Rattle.std.specs.Prelude.{◌≡◌, map, ◌*◌, length, None};
 ghost use Rattle.geom.specs.Outline.{points};
 ghost use Rattle.salvage.specs.Ring.{finite_point, same, repeats, stray, after, strays, closed, few, ring_marks};
 ghost use Rattle.salvage.specs.RingLaws.{first_kept, last_kept};
 
 use crate::writing::count_kept;
 use geom::P;
+use geom::flat::Points;
 use geom::sewing::corner;
 use leaves::{is_finite, to_bits};
 use limits::good_point;
@@ -22,13 +23,6 @@ pub const CLOSING: usize = 4;
 
 pub const FEW: usize = 5;
 
-// The last kept corner of a ring, if there is one yet.
-#[derive(Clone, Copy)]
-pub enum Last {
-    Nothing,
-    Corner(P),
-}
-
 // Equal in bits: -0 and +0 are not.
 #[tactic(auto, unfolding(crate::specs::Ring::same))]
 fn same(p: P, q: P) -> bool
@@ -43,17 +37,17 @@ fn finite_point(p: P) -> bool
     is_finite(p.x) && is_finite(p.y)
 }
 
-fn repeats(last: Last, p: P) -> bool
+fn repeats(last: Option<P>, p: P) -> bool
     ensures { result ≡ repeats last p }
 {
     match last {
-        Last::Nothing => false,
-        Last::Corner(q) => same(q, p),
+        None => false,
+        Some(q) => same(q, p),
     }
 }
 
-// The mark of a corner by itself and by the last that is kept.
-fn stray(last: Last, p: P) -> usize
+// The mark of a corner by itself and by the last of the ring that is kept, if there is one yet.
+fn stray(last: Option<P>, p: P) -> usize
     ensures { result ≡ stray last p }
 {
     if !finite_point(p) {
@@ -68,22 +62,18 @@ fn stray(last: Last, p: P) -> usize
     KEPT
 }
 
-fn after(last: Last, m: usize, p: P) -> Last
+fn after(last: Option<P>, m: usize, p: P) -> Option<P>
     ensures { result ≡ after last m p }
 {
-    if m == KEPT {
-        return Last::Corner(p);
-    }
-    last
+    if m == KEPT { Some(p) } else { last }
 }
 
 fn mark_strays(ring: &[f64], marks: &mut [usize])
     requires { length ring.now ≡ 2 * length marks.old }
-    ensures { marks.new ≡ strays Last.Nothing (points ring.now) }
+    ensures { marks.new ≡ strays None (points ring.now) }
 {
-    let mut last = Last::Nothing;
-    for i in 0..marks.len() {
-        let p = corner(ring, 2 * i);
+    let mut last = None;
+    for (i, p) in Points::of(ring).enumerate() {
         let m = stray(last, p);
         marks[i] = m;
         last = after(last, m, p);

@@ -36,13 +36,10 @@ pub fn put_ends(ends: &[usize], marks: &[usize], out: &mut [usize])
 {
     let mut n = 0;
     let mut a = 0;
-    let mut k = 0;
-    while k < ends.len() {
-        let e = ends[k];
-        n += count_kept(&marks[a..e]);
+    for (k, e) in ends.iter().enumerate() {
+        n += count_kept(&marks[a..*e]);
         out[k] = n;
-        a = e;
-        k += 1;
+        a = *e;
     }
 }
 

@@ -17,41 +17,41 @@ pub overflow_sub-dropped : goal.overflow_sub-dropped
 overflow_sub-dropped c = omega (arith, c.count_kept-kept.ensures, sift_length kept c.args.marks.now)
 
 pub has_room-requires : goal.has_room-requires
-has_room-requires c = omega (arith, c.count_kept-kept.ensures, count_few c.args.corners.now c.args.ends.now c.args.marks.now c.requires.0 c.requires.1)
+has_room-requires c = omega (arith, c.count_kept-kept.ensures, count_few c.args.o.corners.now c.args.o.ends.now c.args.marks.now c.requires.0 c.requires.1)
 
 pub returns-then-not-has_room : goal.returns-then-not-has_room
 unfolding outcome_by
 returns-then-not-has_room c =
     let a = c.args in
-    rw (fits_by a.corners.now a.ends.now a.marks.now c.requires.0 c.requires.1 c.count_kept-kept.result c.count_kept-kept.ensures (length a.keep.now) (length a.stops.now) (length a.places.now) (length a.reasons.now) ∙ failed c.has_room.ensures (ap not c.if-not-has_room.true))
+    rw (fits_by a.o.corners.now a.o.ends.now a.marks.now c.requires.0 c.requires.1 c.count_kept-kept.result c.count_kept-kept.ensures (length a.keep.now) (length a.stops.now) (length a.places.now) (length a.reasons.now) ∙ failed c.has_room.ensures (ap not c.if-not-has_room.true))
 
 pub put_corners-requires : goal.put_corners-requires
 put_corners-requires c =
     let a = c.args in
     let n = c.count_kept-kept.result in
     let d = length a.marks.now - n in
-    let r = room_all (2 * n) (length a.ends.now) d d (length a.keep.now) (length a.stops.now) (length a.places.now) (length a.reasons.now) (passed c.has_room.ensures (ap not c.if-not-has_room.false)) in
-    (sized a.corners.now a.ends.now a.marks.now c.requires.0 c.requires.1, corners_room a.corners.now a.ends.now a.marks.now c.requires.0 c.requires.1 n c.count_kept-kept.ensures (length a.keep.now) r.corners)
+    let r = room_all (2 * n) (length a.o.ends.now) d d (length a.keep.now) (length a.stops.now) (length a.places.now) (length a.reasons.now) (passed c.has_room.ensures (ap not c.if-not-has_room.false)) in
+    (sized a.o.corners.now a.o.ends.now a.marks.now c.requires.0 c.requires.1, corners_room a.o.corners.now a.o.ends.now a.marks.now c.requires.0 c.requires.1 n c.count_kept-kept.ensures (length a.keep.now) r.corners)
 
 pub put_ends-requires : goal.put_ends-requires
 put_ends-requires c =
     let a = c.args in
     let n = c.count_kept-kept.result in
     let d = length a.marks.now - n in
-    let r = room_all (2 * n) (length a.ends.now) d d (length a.keep.now) (length a.stops.now) (length a.places.now) (length a.reasons.now) (passed c.has_room.ensures (ap not c.if-not-has_room.false)) in
-    (rise_marks a.corners.now a.ends.now a.marks.now c.requires.0 c.requires.1, r.ends)
+    let r = room_all (2 * n) (length a.o.ends.now) d d (length a.keep.now) (length a.stops.now) (length a.places.now) (length a.reasons.now) (passed c.has_room.ensures (ap not c.if-not-has_room.false)) in
+    (rise_marks a.o.corners.now a.o.ends.now a.marks.now c.requires.0 c.requires.1, r.ends)
 
 pub put_dropped-requires : goal.put_dropped-requires
 put_dropped-requires c =
     let a = c.args in
     let n = c.count_kept-kept.result in
     let d = length a.marks.now - n in
-    let r = room_all (2 * n) (length a.ends.now) d d (length a.keep.now) (length a.stops.now) (length a.places.now) (length a.reasons.now) (passed c.has_room.ensures (ap not c.if-not-has_room.false)) in
-    (places_room a.corners.now a.ends.now a.marks.now c.requires.0 c.requires.1 n c.count_kept-kept.ensures (length a.places.now) r.places, reasons_room a.corners.now a.ends.now a.marks.now c.requires.0 c.requires.1 n c.count_kept-kept.ensures (length a.reasons.now) r.reasons)
+    let r = room_all (2 * n) (length a.o.ends.now) d d (length a.keep.now) (length a.stops.now) (length a.places.now) (length a.reasons.now) (passed c.has_room.ensures (ap not c.if-not-has_room.false)) in
+    (places_room a.o.corners.now a.o.ends.now a.marks.now c.requires.0 c.requires.1 n c.count_kept-kept.ensures (length a.places.now) r.places, reasons_room a.o.corners.now a.o.ends.now a.marks.now c.requires.0 c.requires.1 n c.count_kept-kept.ensures (length a.reasons.now) r.reasons)
 
 pub returns : goal.returns
 returns c =
     let a = c.args in
     let n = c.count_kept-kept.result in
-    rw (fits_by a.corners.now a.ends.now a.marks.now c.requires.0 c.requires.1 n c.count_kept-kept.ensures (length a.keep.now) (length a.stops.now) (length a.places.now) (length a.reasons.now) ∙ passed c.has_room.ensures (ap not c.if-not-has_room.false))
-    (all_written a.corners.now a.ends.now a.marks.now c.requires.0 c.requires.1 n c.count_kept-kept.ensures _ _ _ _ _ _ _ _ c.put_corners.ensures c.put_ends.ensures c.put_dropped.ensures.places_after c.put_dropped.ensures.reasons_after)
+    rw (fits_by a.o.corners.now a.o.ends.now a.marks.now c.requires.0 c.requires.1 n c.count_kept-kept.ensures (length a.keep.now) (length a.stops.now) (length a.places.now) (length a.reasons.now) ∙ passed c.has_room.ensures (ap not c.if-not-has_room.false))
+    (all_written a.o.corners.now a.o.ends.now a.marks.now c.requires.0 c.requires.1 n c.count_kept-kept.ensures _ _ _ _ _ _ _ _ c.put_corners.ensures c.put_ends.ensures c.put_dropped.ensures.places_after c.put_dropped.ensures.reasons_after)
