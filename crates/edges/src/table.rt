@@ -71,6 +71,7 @@ fn direction(falls: bool) -> f64
 }
 
 // An edge at k, if there is room.
+// kept (6): rule: document 01 lends the slices, so edges stand in one as blocks of floats
 fn put_edge(floats: &mut [f64], k: usize, e: Edge)
     requires { k ≤ 1000000 }
     ensures { Wrote floats.old floats.new k (edge_block e) }

@@ -5,12 +5,14 @@ ghost use Rattle.sweep.specs.Swept.{enters, stays, Retained, Admitted, Gathered}
 use crate::key::{Key, sort};
 use edges::Table;
 
+// kept (6): rule: document 01 lends the slices, so a list of places is a slice and its length
 #[derive(Clone, Copy, Default)]
 pub struct Live {
     pub m: usize,
     pub next: usize,
 }
 
+// kept (5): no plainer: of table, way and y each call takes what the contracts name one by one; a struct of them is only taken apart
 fn enters(table: &Table, upward: bool, y: f64, i: usize) -> bool
     ensures { result ≡ enters upward table.now y i }
 {

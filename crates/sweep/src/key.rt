@@ -6,6 +6,7 @@ ghost use Rattle.sweep.specs.Swept.{key_of, ahead, by, ordered};
 use edges::Table;
 
 // A row's crossings, y0, or y1 with the last first.
+// kept (7): no plainer: the theorems order places by such a key (Exact), and a closure would only hide it
 #[derive(Clone, Copy)]
 pub enum Key {
     X(f64),
@@ -25,6 +26,7 @@ pub fn key_of(table: &Table, key: Key, i: usize) -> f64
 }
 
 // Whether place i, of key x, comes before place j, of key z, or is it.
+// kept (4): no plainer: f64::total_cmp asks for numbers, and a key may be a NaN
 pub fn ahead(x: f64, i: usize, z: f64, j: usize) -> bool
     ensures { result ≡ ahead x i z j }
 {
