@@ -7,9 +7,6 @@ use Rattle.edges.specs.SpanLaws.{up_fits, down_fits}
 use borrow.Author.Rules.{rules}
 use Rattle.edges.proofs.rows.row_number.Goals as goal
 
-pub overflow_cast-result : goal.overflow_cast-result
-overflow_cast-result c = record { sfits = omega (arith, c.requires.0.few, c.requires.1) }
-
 pub overflow_sub-result : goal.overflow_sub-result
 overflow_sub-result c =
     let w = c.args.w in
@@ -21,9 +18,6 @@ returns-then-upward c =
     let w = c.args.w in
     let s = c.requires.0 in
     rw (c.if-upward.true, to_z-of_z w64 w.hi s.high, cast c.args.r 4096 (omega (arith, s.few, c.requires.1)) (search rules), to_z-of_z w64 (w.hi -ℤ pos c.args.r) (down_fits w.lo w.hi c.args.r (omega (arith, s.all, c.requires.1)) s.low s.high))
-
-pub overflow_cast-result-2 : goal.overflow_cast-result-2
-overflow_cast-result-2 c = record { sfits = omega (arith, c.requires.0.few, c.requires.1) }
 
 pub overflow_add-result : goal.overflow_add-result
 overflow_add-result c =

@@ -1,6 +1,6 @@
 use Rattle.std.proofs.Common.{refl, arith}
 use Rattle.seqs.specs.Lists.{each}
-use Rattle.seqs.specs.Adding.{adding_start, adding_step, adding_end}
+use Rattle.seqs.specs.Adding.{adding_start, adding_step}
 use Rattle.geom.specs.Rings.{rings_of}
 use Rattle.rules.specs.Fill.{kept_side}
 use Rattle.edges.specs.Table.{edge_block, edge_place}
@@ -18,6 +18,3 @@ pub loop-a-preserved : goal.loop-a-preserved
 loop-a-preserved c =
     let r = rw c.in-Some.ensures.steps at c.loop-a.invariant.2 in
     (tt, tt, adding_step edge_place edge_block 5 (λ e. refl) (λ n m. omega arith) (kept_side (c.in-Some.a, c.in-Some.b)) (each kept_side c.next.new.self) r (rw c.kept_side.ensures at c.put_side-n.ensures))
-
-pub returns : goal.returns
-returns c = adding_end edge_place edge_block (rw c.in-None.ensures.steps.0 at c.loop-a.invariant.2)

@@ -1,12 +1,9 @@
 use Rattle.std.proofs.Common.{◌≡◌, ◌+◌, ◌-◌}
 use mathlib.Core.Path.{sym, ◌∙◌}
 use native.Mathlib.Omega.{arith}
-use Rattle.seqs.specs.Insert.{carried_start, carried_down, carried_end}
+use Rattle.seqs.specs.Insert.{carried_down, carried_end}
 use Rattle.sweep.specs.Swept.{by}
 use Rattle.sweep.proofs.key.insert.Goals as goal
-
-pub loop-j-init : goal.loop-j-init
-loop-j-init c = carried_start (by c.args.key c.args.table.now) c.args.l.now c.args.n 0 c.requires
 
 pub returns-then-not-ahead : goal.returns-then-not-ahead
 returns-then-not-ahead c =

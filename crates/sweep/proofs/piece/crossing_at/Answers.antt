@@ -21,13 +21,6 @@ returns-then-not-same_x c =
     let u = rw (lent_read a.places.now a.at l.i-index l.invariant.0) at c.edge-u.ensures in
     record { is = l.invariant.2 ∙ merge_other a.table.now a.y a.places.now l.c.x l.c.dir l.c.next h u (sym c.same_x.ensures ∙ c.if-not-same_x.true); on = omega (arith, l.invariant.0); within = omega arith; small = l.invariant.1 }
 
-pub join-c-requires : goal.join-c-requires
-join-c-requires c =
-    let a = c.args in
-    let l = c.loop-i in
-    let h = lent_in a.places.now a.at l.i-index l.invariant.0 c.loop-i-test.true in
-    (omega (arith, l.invariant.1, c.requires.0), omega (arith, c.requires.0))
-
 pub loop-i-preserved : goal.loop-i-preserved
 loop-i-preserved c =
     let a = c.args in

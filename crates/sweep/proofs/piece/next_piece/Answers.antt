@@ -5,12 +5,6 @@ use Rattle.sweep.proofs.Scans.{rest_none, scan_turn}
 use borrow.Author.Rules.{rules}
 use Rattle.sweep.proofs.piece.next_piece.Goals as goal
 
-pub pass-next-requires : goal.pass-next-requires
-pass-next-requires c = (c.loop-s.invariant.2, c.crossing_at-x.ensures.small, omega (arith, c.crossing_at-x.ensures.within, c.requires))
-
-pub closes-requires : goal.closes-requires
-closes-requires c = (omega (arith, c.loop-s.invariant, c.requires), omega (arith, c.pass-next.ensures.1, ap (λ (t : Scan). t.at) c.pass-next.ensures.0, c.crossing_at-x.ensures.within, c.requires))
-
 pub returns-then-closes : goal.returns-then-closes
 returns-then-closes c =
     let a = c.args in
@@ -20,9 +14,6 @@ returns-then-closes c =
     let e = scan_turn a.c a.table.now a.places.now l.s x r.0 c.cut_ends-p.ensures c.closes.ensures in
     let n = ap (λ (t : Scan). t.at) r.0 in
     record { is = l.invariant.3 ∙ (rw c.if-closes.true at e); on = omega (arith, n, x.on); within = omega (arith, n, x.within); small = r.1 }
-
-pub loop-s-smaller : goal.loop-s-smaller
-loop-s-smaller c = omega (arith, ap (λ (t : Scan). t.at) c.pass-next.ensures.0, c.crossing_at-x.ensures.on)
 
 pub loop-s-preserved : goal.loop-s-preserved
 loop-s-preserved c =

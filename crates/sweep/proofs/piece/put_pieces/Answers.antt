@@ -1,12 +1,9 @@
 use Rattle.std.proofs.Common.{refl, arith}
-use Rattle.seqs.specs.Adding.{adding_start, adding_at, adding_step, adding_end, added_one}
+use Rattle.seqs.specs.Adding.{adding_at, adding_step, added_one}
 use Rattle.sweep.specs.Swept.{span_block, block_place}
 use borrow.Author.Rules.{rules}
 use Rattle.sweep.specs.SweptLaws.{cuts_few}
 use Rattle.sweep.proofs.piece.put_pieces.Goals as goal
-
-pub loop-p-init : goal.loop-p-init
-loop-p-init c = (search rules, search rules, rw (c.into_iter-p-iterator.ensures.into_iter_gives, c.new-p-items.ensures) (adding_start block_place (span_block c.args.c.y) _ _ _))
 
 pub loop-p-preserved : goal.loop-p-preserved
 loop-p-preserved c =
@@ -21,8 +18,3 @@ put_piece-requires c = omega (arith, c.loop-p.invariant.2.count, cuts_few c.args
 
 pub overflow_add-n : goal.overflow_add-n
 overflow_add-n c = omega (arith, c.loop-p.invariant.2.count, cuts_few c.args.c c.args.table.now c.args.places.now)
-
-pub returns : goal.returns
-returns c =
-    let enc = span_block c.args.c.y in
-    adding_end block_place enc (adding_at block_place enc c.in-None.ensures.steps.0 c.loop-p.invariant.2)

@@ -1,5 +1,4 @@
-use Rattle.std.proofs.Common.{◌≡◌, ◌+◌, ◌<◌, length, ap, sym, ◌∙◌, add-one, arith, take_all, take-suc-set}
-use Rattle.seqs.specs.Lists.{upto}
+use Rattle.std.proofs.Common.{◌≡◌, ◌+◌, ◌<◌, length, add-one, arith, take-suc-set}
 use Rattle.seqs.specs.Upto.{upto_append}
 use Rattle.sweep.proofs.waiting.count_up.Goals as goal
 
@@ -9,9 +8,3 @@ loop-i-preserved c =
     let h : l.i < length l.l = omega arith in
     let e : 0 + l.i ≡ l.i = omega arith in
     rw (upto_append 0 l.i 1, e, ← l.invariant, add-one) (take-suc-set l.l l.i l.i h)
-
-pub returns : goal.returns
-returns c =
-    let l = c.loop-i in
-    let n : l.i ≡ length c.args.l.now = omega arith in
-    sym (take_all l.i l.l (omega arith)) ∙ l.invariant ∙ ap (upto 0) n

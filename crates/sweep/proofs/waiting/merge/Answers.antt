@@ -1,12 +1,9 @@
 use Rattle.std.proofs.Common.{[], sym, ◌∙◌, arith}
 use Rattle.seqs.specs.Parts.{tail_lent}
 use Rattle.sweep.specs.Swept.{by}
-use Rattle.sweep.specs.MergeLaws.{left_some, right_some, merging_start, merging_left, merging_right, merging_end}
+use Rattle.sweep.specs.MergeLaws.{left_some, right_some, merging_left, merging_right, merging_end}
 use Rattle.sweep.proofs.waiting.merge.Goals as goal
 use Rattle.sweep.proofs.waiting.merge.Goals.{then-left_next, else-left_next}
-
-pub loop-x-init : goal.loop-x-init
-loop-x-init c = let a = c.args in merging_start (by a.key a.table.now) a.to.now a.a.now a.b.now c.requires
 
 pub bounds-a-0 : goal.bounds-a-0
 bounds-a-0 c = let l = c.loop-x in left_some (by c.args.key c.args.table.now) l.a.now l.b.now (sym c.left_next.ensures ∙ c.if-left_next.true)
