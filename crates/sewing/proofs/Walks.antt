@@ -13,8 +13,9 @@ use Rattle.numbers.specs.Num.{◌⊗◌, ◌⊘◌, real}
 use Rattle.seqs.specs.Lists.{upto, each}
 use Rattle.seqs.specs.Tests.{either}
 use Rattle.seqs.specs.Front.{none}
-use Rattle.seqs.specs.Slices.{capped}
-use Rattle.seqs.specs.Capped.{capped_exact, capped_past, capped_over}
+use Rattle.std.specs.Prelude.{Option, Some, None}
+use Rattle.seqs.specs.Capped.{capped_over}
+use Rattle.sewing.specs.Within.{within, within_over, within_some, within_none}
 use Rattle.seqs.specs.Upto.{upto_next, upto_none}
 use Rattle.geom.specs.declared.point.P.{P}
 use Rattle.geom.specs.Point.{point}
@@ -53,15 +54,15 @@ module _ (g : Settings) (stagger : ℕ) (e : Entry) (pen : P) where
   pub row_same : length (needles g stagger e.piece) ≤ most → sew_to g.len pen (targets g.len (row_of g stagger e) 0 ((row_of g stagger e).n + 2)) ≡ sew_to g.len pen (row_points g stagger e)
   row_same h = ap (sew_to g.len pen) (row_points_lem g stagger e h)
 
-  pub row_capped : (c cap : ℕ) → cap < 2 ^ 63 → capped cap (c + length (sew_to g.len pen (targets g.len (row_of g stagger e) 0 ((row_of g stagger e).n + 2)))) ≡ capped cap (c + length (sew_to g.len pen (row_points g stagger e)))
+  pub row_within : (c cap : ℕ) → cap < 2 ^ 63 → within cap (c + length (sew_to g.len pen (targets g.len (row_of g stagger e) 0 ((row_of g stagger e).n + 2)))) ≡ within cap (c + length (sew_to g.len pen (row_points g stagger e)))
   unfolding row_of row_by
-  row_capped c cap h = elim (either (leb (length (needles g stagger e.piece)) most)) [
-    | inl k ↦ ap (λ l. capped cap (c + length l)) (row_same (leb-true (length (needles g stagger e.piece)) most k))
+  row_within c cap h = elim (either (leb (length (needles g stagger e.piece)) most)) [
+    | inl k ↦ ap (λ l. within cap (c + length l)) (row_same (leb-true (length (needles g stagger e.piece)) most k))
     | inr k ↦
         let b = leb-false (length (needles g stagger e.piece)) most k in
         let n : (row_of g stagger e).n ≡ most + 1 = capped_over most _ (omega (arith, needles_length g stagger e.piece)) in
-        capped_over cap _ (omega (arith, n, sew_least g.len pen (targets g.len (row_of g stagger e) 0 ((row_of g stagger e).n + 2)), targets_length g.len (row_of g stagger e) 0 ((row_of g stagger e).n + 2)))
-        ∙ sym (capped_over cap _ (omega (arith, sew_least g.len pen (row_points g stagger e), row_length g stagger e)))
+        sym (within_over cap _ (omega (arith, n, sew_least g.len pen (targets g.len (row_of g stagger e) 0 ((row_of g stagger e).n + 2)), targets_length g.len (row_of g stagger e) 0 ((row_of g stagger e).n + 2))))
+        ∙ within_over cap _ (omega (arith, sew_least g.len pen (row_points g stagger e), row_length g stagger e))
   ]
 
 -- ---- along a section
@@ -151,15 +152,15 @@ module _ (f : Field) (floats : List Float) (d : List ℕ) (s : ℕ) where
             ap length (step_sewn pen) ∙ length-append (back f.g.cosine f.g.sine a) b ∙ rw (back_length f.g.cosine f.g.sine a, pen_end)
 
         -- counted
-        module _ (c r cap : ℕ) (k : cap < 2 ^ 63) (v : r ≡ capped cap (c + length (sew_to f.g.len pen (targets f.g.len w 0 (w.n + 2))))) where
-          count_is : r ≡ capped cap (c + length (sew_to f.g.len pen (row_points f.g f.stagger (entry_at f floats d j))))
-          count_is = rw e at v ∙ row_capped f.g f.stagger (entry_at f floats d j) pen c cap k
+        module _ (c cap : ℕ) (k : cap < 2 ^ 63) {o : Option ℕ} (v : o ≡ within cap (c + length (sew_to f.g.len pen (targets f.g.len w 0 (w.n + 2))))) where
+          count_is : o ≡ within cap (c + length (sew_to f.g.len pen (row_points f.g f.stagger (entry_at f floats d j))))
+          count_is = rw e at v ∙ row_within f.g f.stagger (entry_at f floats d j) pen c cap k
 
-          pub count_on : r ≤ cap → r + length (rest_sewn (point w.last w.y) (get_or d (3 * f.pieces + j) 0)) ≡ c + length (rest_sewn pen j)
-          count_on m = omega (arith, sizes, capped_exact cap (c + length (sew_to f.g.len pen (row_points f.g f.stagger (entry_at f floats d j)))) count_is m)
+          pub count_on : (r : ℕ) → o ≡ Some r → (r + length (rest_sewn (point w.last w.y) (get_or d (3 * f.pieces + j) 0)) ≡ c + length (rest_sewn pen j)) × (r ≤ cap)
+          count_on r m = let h = within_some cap (c + length (sew_to f.g.len pen (row_points f.g f.stagger (entry_at f floats d j)))) (sym m ∙ count_is) in (omega (arith, sizes, h.0), omega (arith, h.0, h.1))
 
-          pub count_past : cap < r → cap < c + length (rest_sewn pen j)
-          count_past m = omega (arith, sizes, capped_past cap (c + length (sew_to f.g.len pen (row_points f.g f.stagger (entry_at f floats d j)))) count_is m)
+          pub count_past : o ≡ None → cap < c + length (rest_sewn pen j)
+          count_past m = omega (arith, sizes, within_none cap (c + length (sew_to f.g.len pen (row_points f.g f.stagger (entry_at f floats d j)))) (sym m ∙ count_is))
 
         -- written
         pub put_on : length (flat (rest_sewn pen j)) < 2 ^ 64

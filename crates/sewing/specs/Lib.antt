@@ -5,3 +5,4 @@ pub mod RowLaws
 pub mod LinkedLaws
 pub mod SewLaws
 pub mod Tatami
+pub mod Within

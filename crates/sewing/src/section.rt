@@ -1,9 +1,10 @@
 // Sections: their pieces sewn one after the other, counted, then written.
 ghost use Rattle.std.specs.Prelude.{◌≡◌, ◌++◌, ◌+◌, ◌*◌, ◌<◌, ◌≤◌, ◌^◌, length, drop};
 ghost use Rattle.seqs.specs.Lists.{each};
-ghost use Rattle.seqs.specs.Slices.{capped, Put};
+ghost use Rattle.seqs.specs.Slices.{Put};
 ghost use Rattle.geom.specs.Sewing.{flat};
 ghost use Rattle.rules.specs.Calls.{sewn_points, sewn_ends};
+ghost use Rattle.sewing.specs.Within.{within};
 ghost use Rattle.sewing.specs.Sewing.{section_sewn, first_sewn, Linked};
 
 use crate::piece::Pieces;
@@ -11,30 +12,27 @@ use crate::stitch::{count_row, put_row};
 use crate::thread::Thread;
 use geom::P;
 
-// How many points section s has, after c0 others; cap + 1 where they pass the cap.
-fn count_section(l: Pieces, s: usize, c0: u64, cap: u64) -> u64
+// How many points section s has, after c0 others, unless they pass the cap.
+fn count_section(l: Pieces, s: usize, c0: u64, cap: u64) -> Option<u64>
     requires { (s < l.sections) × (c0 ≤ cap) × (cap < 2 ^ 63) }
-    ensures { result ≡ capped cap (c0 + length (section_sewn l.entry.thread.now.field l.entry.floats.now l.entry.wholes.now s)) }
+    ensures { result ≡ within cap (c0 + length (section_sewn l.entry.thread.now.field l.entry.floats.now l.entry.wholes.now s)) }
 {
     let t = l.thread;
     let n = t.field.pieces;
     let mut j = l.wholes[4 * n + s];
     if j >= n {
-        return c0;
+        return Some(c0);
     }
     let mut pen = l.start(j);
     let mut c = c0;
     // kept (3): no plainer: j goes along the links, not up by one
     while j < n {
         let w = l.row(j);
-        c = count_row(t, w, pen, c, cap);
-        if c > cap {
-            return cap + 1;
-        }
+        c = count_row(t, w, pen, c, cap)?;
         pen = P { x: w.last, y: w.y };
         j = l.wholes[3 * n + j];
     }
-    c
+    Some(c)
 }
 
 // Section s, from k on.
@@ -60,10 +58,10 @@ fn put_section(out: &mut [f64], k: usize, l: Pieces, s: usize) -> usize
     at
 }
 
-// How many points the first sections have; cap + 1 where they pass the cap.
-pub fn count(floats: &[f64], wholes: &[usize], t: &Thread, sections: usize, cap: u64) -> u64
+// How many points the first sections have, unless they pass the cap.
+pub fn count(floats: &[f64], wholes: &[usize], t: &Thread, sections: usize, cap: u64) -> Option<u64>
     requires { Linked t.now.field sections floats.now wholes.now × (cap < 2 ^ 63) }
-    ensures { result ≡ capped cap (length (each (λ s. s) (first_sewn t.now.field floats.now wholes.now sections))) }
+    ensures { result ≡ within cap (length (each (λ s. s) (first_sewn t.now.field floats.now wholes.now sections))) }
 {
     let l = Pieces {
         floats,
@@ -73,12 +71,9 @@ pub fn count(floats: &[f64], wholes: &[usize], t: &Thread, sections: usize, cap:
     };
     let mut c: u64 = 0;
     for s in 0..sections {
-        c = count_section(l, s, c, cap);
-        if c > cap {
-            return cap + 1;
-        }
+        c = count_section(l, s, c, cap)?;
     }
-    c
+    Some(c)
 }
 
 // The points of the first sections to the front of `out`, x before y, and where each ends, in points, to the front of `ends`.

@@ -1,8 +1,9 @@
 // From the pen to a target: how often the way is cut, counted and written.
 ghost use Rattle.std.specs.Prelude.{◌≡◌, ◌+◌, ◌*◌, ◌<◌, ◌≤◌, ◌^◌, true, length};
-ghost use Rattle.seqs.specs.Slices.{capped, Put};
+ghost use Rattle.seqs.specs.Slices.{Put};
 ghost use Rattle.std.specs.Option.{ForSome};
 ghost use Rattle.geom.specs.Sewing.{flat};
+ghost use Rattle.sewing.specs.Within.{within};
 ghost use Rattle.sewing.specs.Sewing.{cuts_at, cuts_for, cuts, OwnRoot, Decides, gap, sew_to, back, Near, targets, row_sewn};
 
 use crate::row::{Row, target_at};
@@ -94,13 +95,13 @@ fn put_gap(out: &mut [f64], k: usize, p: P, q: P, n: u64, c: f64, s: f64) -> usi
     at + 2
 }
 
-// How many points a row has, sewn from the pen, after c0 others; cap + 1 where they pass the cap.
-pub fn count_row(t: &Thread, w: Row, pen: P, c0: u64, cap: u64) -> u64
+// How many points a row has, sewn from the pen, after c0 others, unless they pass the cap.
+pub fn count_row(t: &Thread, w: Row, pen: P, c0: u64, cap: u64) -> Option<u64>
     requires { Near w × (c0 ≤ cap) × (cap < 2 ^ 63) }
-    ensures { result ≡ capped cap (c0 + length (sew_to t.now.field.g.len pen (targets t.now.field.g.len w 0 (w.n + 2)))) }
+    ensures { result ≡ within cap (c0 + length (sew_to t.now.field.g.len pen (targets t.now.field.g.len w 0 (w.n + 2)))) }
 {
     if cap < w.n {
-        return cap + 1;
+        return None;
     }
     let end = w.n + 2;
     let mut from = pen;
@@ -109,12 +110,12 @@ pub fn count_row(t: &Thread, w: Row, pen: P, c0: u64, cap: u64) -> u64
         let to = target_at(w, t.field.g.len, r);
         let n = cuts_to(from, to, t);
         if cap - c <= n {
-            return cap + 1;
+            return None;
         }
         c += n + 1;
         from = to;
     }
-    c
+    Some(c)
 }
 
 // A row's points, sewn from the pen and turned back, from k on.

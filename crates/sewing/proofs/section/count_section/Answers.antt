@@ -3,7 +3,8 @@ use mathlib.Core.Path.{◌≡◌, refl, sym, ap, ◌∙◌}
 use Prim.Native.Nat.{◌+◌, ◌*◌}
 use native.Mathlib.Omega.{arith}
 use lib.ListN.{length, get_or}
-use Rattle.seqs.specs.Capped.{capped_in, capped_over}
+use Rattle.std.specs.Prelude.{ℕ, Some}
+use Rattle.sewing.specs.Within.{within_in, within_over}
 use Rattle.rules.specs.Fill.{sewn, section}
 use Rattle.sewing.specs.Sewing.{entry_at, start_of, entries_in}
 use Rattle.sewing.specs.LinkedLaws.{linked_less}
@@ -22,7 +23,7 @@ returns-then-j-n c =
     let e = ap length (sym (start_sewn f fl wh a.s k0 pen (λ h. refl)) ∙ rest_none f fl wh a.s pen j c.if-j-n.true) in
     let x = a.c0 + length (sewn f.g f.stagger (section (entries_in f fl wh) a.s)) in
     let q : a.c0 ≡ x = omega (arith, e) in
-    q ∙ sym (capped_in a.cap x (omega (arith, q, c.requires.1)))
+    ap (λ (v : ℕ). Some v) q ∙ within_in a.cap x (omega (arith, q, c.requires.1))
 
 pub loop-j-init : goal.loop-j-init
 loop-j-init c =
@@ -34,19 +35,19 @@ loop-j-init c =
     let o = start_on f fl wh a.s k0 in
     (c.requires.1, o.0, refl, o.1, ap (λ l. a.c0 + length l) (start_sewn f fl wh a.s k0 c.start-pen.result (λ h. c.start-pen.ensures)))
 
-pub count_row-c-requires : goal.count_row-c-requires
-count_row-c-requires c = (c.row-w.ensures.1, c.loop-j.invariant.0, c.requires.2)
+pub count_row-requires : goal.count_row-requires
+count_row-requires c = (c.row-w.ensures.1, c.loop-j.invariant.0, c.requires.2)
 
-pub returns-then-c-cap : goal.returns-then-c-cap
-returns-then-c-cap c =
+pub returns-in_err-c : goal.returns-in_err-c
+returns-in_err-c c =
     let a = c.args in
     let f = a.l.thread.now.field in
     let fl = a.l.floats.now in
     let wh = a.l.wholes.now in
     let k0 = linked_less f a.l.sections (a.s + 1) fl wh (omega arith) a.l.linked in
     let l = c.loop-j in
-    sym (capped_over a.cap (a.c0 + length (sewn f.g f.stagger (section (entries_in f fl wh) a.s)))
-    (omega (arith, l.invariant.4, count_past f fl wh a.s k0 l.j c.loop-j-test.true (l.invariant.3 c.loop-j-test.true) l.pen c.row-w.result c.row-w.ensures.0 l.c c.count_row-c.result a.cap c.requires.2 c.count_row-c.ensures c.if-c-cap.true)))
+    rw c.from_residual.ensures (within_over a.cap (a.c0 + length (sewn f.g f.stagger (section (entries_in f fl wh) a.s)))
+    (omega (arith, l.invariant.4, count_past f fl wh a.s k0 l.j c.loop-j-test.true (l.invariant.3 c.loop-j-test.true) l.pen c.row-w.result c.row-w.ensures.0 l.c a.cap c.requires.2 c.count_row.ensures c.in_err-c.was)))
 
 pub loop-j-smaller : goal.loop-j-smaller
 loop-j-smaller c =
@@ -67,12 +68,13 @@ loop-j-preserved c =
     let k0 = linked_less f a.l.sections (a.s + 1) fl wh (omega arith) a.l.linked in
     let l = c.loop-j in
     let h = c.loop-j-test.true in
-    let q = l.invariant.3 h in (
-      c.if-c-cap.false,
+    let q = l.invariant.3 h in
+    let n = count_on f fl wh a.s k0 l.j h q l.pen c.row-w.result c.row-w.ensures.0 l.c a.cap c.requires.2 c.count_row.ensures _ c.in_ok-c.was in (
+      n.1,
       step_high f fl wh a.s k0 l.j h q,
       refl,
       step_on f fl wh a.s k0 l.j h q,
-      count_on f fl wh a.s k0 l.j h q l.pen c.row-w.result c.row-w.ensures.0 l.c c.count_row-c.result a.cap c.requires.2 c.count_row-c.ensures c.if-c-cap.false ∙ l.invariant.4,
+      n.0 ∙ l.invariant.4,
     )
 
 pub returns : goal.returns
@@ -86,4 +88,4 @@ returns c =
     let e = ap length (rest_none f fl wh a.s l.pen l.j c.loop-j-test.false) in
     let x = a.c0 + length (sewn f.g f.stagger (section (entries_in f fl wh) a.s)) in
     let q : l.c ≡ x = omega (arith, l.invariant.4, e) in
-    q ∙ sym (capped_in a.cap x (omega (arith, q, l.invariant.0)))
+    ap (λ (v : ℕ). Some v) q ∙ within_in a.cap x (omega (arith, q, l.invariant.0))

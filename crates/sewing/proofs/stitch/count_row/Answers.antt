@@ -1,9 +1,10 @@
 -- A row's points, counted. Assumes nothing.
-use mathlib.Core.Path.{◌≡◌, refl, sym, ap, ◌∙◌}
+use mathlib.Core.Path.{◌≡◌, refl, ap, ◌∙◌}
 use Prim.Native.Nat.{◌+◌, ◌-◌}
 use native.Mathlib.Omega.{arith}
 use lib.ListN.{length}
-use Rattle.seqs.specs.Capped.{capped_in, capped_over}
+use Rattle.std.specs.Prelude.{ℕ, Some}
+use Rattle.sewing.specs.Within.{within_in, within_over}
 use Rattle.sewing.specs.Sewing.{sew_to, targets}
 use Rattle.sewing.specs.SewLaws.{sew_least}
 use Rattle.sewing.specs.RowLaws.{targets_length}
@@ -14,7 +15,7 @@ pub returns-then-cap-w : goal.returns-then-cap-w
 returns-then-cap-w c =
     let a = c.args in
     let len = a.t.now.field.g.len in
-    sym (capped_over a.cap (a.c0 + length (sew_to len a.pen (targets len a.w 0 (a.w.n + 2)))) (omega (arith, c.if-cap-w.true, sew_least len a.pen (targets len a.w 0 (a.w.n + 2)), targets_length len a.w 0 (a.w.n + 2))))
+    within_over a.cap (a.c0 + length (sew_to len a.pen (targets len a.w 0 (a.w.n + 2)))) (omega (arith, c.if-cap-w.true, sew_least len a.pen (targets len a.w 0 (a.w.n + 2)), targets_length len a.w 0 (a.w.n + 2)))
 
 pub loop-r-init : goal.loop-r-init
 loop-r-init c = let e : c.args.w.n + 2 - 0 ≡ c.args.w.n + 2 = omega arith in (c.requires.1, refl, omega arith, rw e)
@@ -29,7 +30,7 @@ returns-then-cap-c c =
     let len = a.t.now.field.g.len in
     let f = rw c.target_at-to.ensures at c.cuts_to-n.ensures in
     let e = row_count len a.w l.from l.r (a.w.n + 2) (omega arith) in
-    sym (capped_over a.cap (a.c0 + length (sew_to len a.pen (targets len a.w 0 (a.w.n + 2)))) (omega (arith, e, f, l.invariant.3)))
+    within_over a.cap (a.c0 + length (sew_to len a.pen (targets len a.w 0 (a.w.n + 2)))) (omega (arith, e, f, l.invariant.3))
 
 pub loop-r-preserved : goal.loop-r-preserved
 loop-r-preserved c =
@@ -48,4 +49,4 @@ returns c =
     let len = a.t.now.field.g.len in
     let e = ap length (row_done len a.w l.from l.r (a.w.n + 2) (omega arith)) in
     let q : l.c ≡ a.c0 + length (sew_to len a.pen (targets len a.w 0 (a.w.n + 2))) = omega (arith, l.invariant.3, e) in
-    q ∙ sym (capped_in a.cap (a.c0 + length (sew_to len a.pen (targets len a.w 0 (a.w.n + 2)))) (omega (arith, q, l.invariant.0)))
+    ap (λ (v : ℕ). Some v) q ∙ within_in a.cap (a.c0 + length (sew_to len a.pen (targets len a.w 0 (a.w.n + 2)))) (omega (arith, q, l.invariant.0))
