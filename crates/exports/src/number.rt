@@ -5,12 +5,13 @@ ghost use Rattle.std.specs.Float.Ieee.{of_int, to_signed, to_unsigned};
 ghost use Rattle.numbers.specs.Root.{root};
 ghost use Rattle.numbers.specs.Whole.{floor, ceil};
 ghost use Rattle.numbers.specs.Order.{before, smaller, larger, magnitude};
-ghost use Rattle.leaves.specs.Answer.{said, said_place, root_answer, floor_answer, ceil_answer, magnitude_answer, smaller_answer, larger_answer, order_answer};
+ghost use Rattle.refusal.specs.Refusal.{said};
+ghost use Rattle.leaves.specs.Answer.{place, root_answer, floor_answer, ceil_answer, magnitude_answer, smaller_answer, larger_answer, order_answer};
 ghost use Rattle.exports.specs.Stored.{stored};
 
 use leaves::checked;
-use leaves::checked::{Leaf, Place};
-use refusal::DONE;
+use refusal::Refusal;
+use std::cmp::Ordering;
 
 #[unsafe(no_mangle)]
 pub extern "C" fn beahcerot_root(x: f64) -> f64
@@ -89,16 +90,16 @@ pub extern "C" fn beahcerot_of_u64(n: u64) -> f64
     leaves::of_u64(n)
 }
 
-// The answer's number; a value goes to `value`, a refusal leaves it.
-pub fn store(l: Leaf, value: &mut f64) -> u64
-    ensures { (result ≡ (said l).number) × (value.new ≡ stored (said l) value.old) }
+// The answer's number; a value goes to its place, a refusal leaves it.
+pub fn store<T: Copy>(r: Result<T, Refusal>, place: &mut T) -> u64
+    ensures { (result ≡ (said r).number) × (place.new ≡ stored (said r) place.old) }
 {
-    match l {
-        Leaf::Value(v) => {
-            *value = v;
-            DONE
+    match r {
+        Ok(v) => {
+            *place = v;
+            0
         }
-        Leaf::Refused(n) => n,
+        Err(e) => u64::from(e),
     }
 }
 
@@ -144,24 +145,14 @@ pub extern "C" fn beahcerot_leaf_larger(a: f64, b: f64, value: &mut f64) -> u64
     store(checked::larger(a, b), value)
 }
 
-// The same for a place in the order: 0 before, 1 the same, 2 after.
-fn store_place(p: Place, place: &mut u64) -> u64
-    ensures { (result ≡ (said_place p).number) × (place.new ≡ stored (said_place p) place.old) }
+// 0 before, 1 the same, 2 after.
+fn place_of(o: Ordering) -> u64
+    ensures { result ≡ place o }
 {
-    match p {
-        Place::Before => {
-            *place = 0;
-            DONE
-        }
-        Place::Same => {
-            *place = 1;
-            DONE
-        }
-        Place::After => {
-            *place = 2;
-            DONE
-        }
-        Place::Refused(n) => n,
+    match o {
+        Ordering::Less => 0,
+        Ordering::Equal => 1,
+        Ordering::Greater => 2,
     }
 }
 
@@ -169,5 +160,5 @@ fn store_place(p: Place, place: &mut u64) -> u64
 pub extern "C" fn beahcerot_leaf_order(a: f64, b: f64, place: &mut u64) -> u64
     ensures { (result ≡ (order_answer a b).number) × (place.new ≡ stored (order_answer a b) place.old) }
 {
-    store_place(checked::order(a, b), place)
+    store(checked::order(a, b).map(place_of), place)
 }

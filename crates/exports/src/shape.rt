@@ -1,6 +1,7 @@
 // Points, outlines and winding: each answers document 01's number, and stores the value where that is DONE.
 ghost use Rattle.std.specs.Prelude.{◌≡◌};
-ghost use Rattle.geometry.specs.Answers.{said_spot, said_wound, said_truth, dot_answer, len_answer, dist_answer, norm_answer, perp_answer, rotate_answer, lerp_answer, cross_answer, winding_answer, point_inside_answer, segment_inside_answer};
+ghost use Rattle.refusal.specs.Refusal.{said};
+ghost use Rattle.geometry.specs.Answers.{dot_answer, len_answer, dist_answer, norm_answer, perp_answer, rotate_answer, lerp_answer, cross_answer, winding_answer, point_inside_answer, segment_inside_answer};
 ghost use Rattle.outlines.specs.Inside.{inside};
 ghost use Rattle.geom.specs.Point.{point};
 ghost use Rattle.exports.specs.Stored.{stored, stored_x, stored_y, stored_truth, bit, rule_of};
@@ -8,32 +9,20 @@ ghost use Rattle.exports.specs.Stored.{stored, stored_x, stored_y, stored_truth,
 use crate::number::store;
 use geom::P;
 use geometry::checked;
-use geometry::checked::{Spot, Truth, Wound};
 use outlines::FillRule;
-use refusal::DONE;
+use refusal::Refusal;
 
-fn store_spot(s: Spot, px: &mut f64, py: &mut f64) -> u64
-    ensures { (result ≡ (said_spot s).number) × (px.new ≡ stored_x (said_spot s) px.old) × (py.new ≡ stored_y (said_spot s) py.old) }
+// A point goes to two places.
+fn store_point(r: Result<P, Refusal>, px: &mut f64, py: &mut f64) -> u64
+    ensures { (result ≡ (said r).number) × (px.new ≡ stored_x (said r) px.old) × (py.new ≡ stored_y (said r) py.old) }
 {
-    match s {
-        Spot::At(p) => {
+    match r {
+        Ok(p) => {
             *px = p.x;
             *py = p.y;
-            DONE
+            0
         }
-        Spot::Refused(n) => n,
-    }
-}
-
-fn store_wound(w: Wound, value: &mut i64) -> u64
-    ensures { (result ≡ (said_wound w).number) × (value.new ≡ stored (said_wound w) value.old) }
-{
-    match w {
-        Wound::Times(k) => {
-            *value = k;
-            DONE
-        }
-        Wound::Refused(n) => n,
+        Err(e) => u64::from(e),
     }
 }
 
@@ -43,16 +32,10 @@ fn bit(b: bool) -> u64
     if b { 1 } else { 0 }
 }
 
-fn store_truth(t: Truth, value: &mut u64) -> u64
-    ensures { (result ≡ (said_truth t).number) × (value.new ≡ stored_truth (said_truth t) value.old) }
+fn store_truth(r: Result<bool, Refusal>, value: &mut u64) -> u64
+    ensures { (result ≡ (said r).number) × (value.new ≡ stored_truth (said r) value.old) }
 {
-    match t {
-        Truth::Is(b) => {
-            *value = bit(b);
-            DONE
-        }
-        Truth::Refused(n) => n,
-    }
+    store(r.map(bit), value)
 }
 
 pub fn rule_of(n: u64) -> FillRule
@@ -99,14 +82,14 @@ pub extern "C" fn beahcerot_cross(ax: f64, ay: f64, bx: f64, by: f64, value: &mu
 pub extern "C" fn beahcerot_norm(x: f64, y: f64, px: &mut f64, py: &mut f64) -> u64
     ensures { (result ≡ (norm_answer (point x y)).number) × (px.new ≡ stored_x (norm_answer (point x y)) px.old) × (py.new ≡ stored_y (norm_answer (point x y)) py.old) }
 {
-    store_spot(checked::norm(P { x, y }), px, py)
+    store_point(checked::norm(P { x, y }), px, py)
 }
 
 #[unsafe(no_mangle)]
 pub extern "C" fn beahcerot_perp(x: f64, y: f64, px: &mut f64, py: &mut f64) -> u64
     ensures { (result ≡ (perp_answer (point x y)).number) × (px.new ≡ stored_x (perp_answer (point x y)) px.old) × (py.new ≡ stored_y (perp_answer (point x y)) py.old) }
 {
-    store_spot(checked::perp(P { x, y }), px, py)
+    store_point(checked::perp(P { x, y }), px, py)
 }
 
 #[unsafe(no_mangle)]
@@ -120,7 +103,7 @@ pub extern "C" fn beahcerot_rotate(
 ) -> u64
     ensures { (result ≡ (rotate_answer (point x y) cos sin).number) × (px.new ≡ stored_x (rotate_answer (point x y) cos sin) px.old) × (py.new ≡ stored_y (rotate_answer (point x y) cos sin) py.old) }
 {
-    store_spot(checked::rotate(P { x, y }, cos, sin), px, py)
+    store_point(checked::rotate(P { x, y }, cos, sin), px, py)
 }
 
 #[unsafe(no_mangle)]
@@ -135,7 +118,7 @@ pub extern "C" fn beahcerot_lerp(
 ) -> u64
     ensures { (result ≡ (lerp_answer (point ax ay) (point bx by) t).number) × (px.new ≡ stored_x (lerp_answer (point ax ay) (point bx by) t) px.old) × (py.new ≡ stored_y (lerp_answer (point ax ay) (point bx by) t) py.old) }
 {
-    store_spot(
+    store_point(
         checked::lerp(P { x: ax, y: ay }, P { x: bx, y: by }, t),
         px,
         py,
@@ -159,7 +142,7 @@ pub extern "C" fn beahcerot_winding(
 ) -> u64
     ensures { (result ≡ (winding_answer corners.now ends.now (point x y)).number) × (value.new ≡ stored (winding_answer corners.now ends.now (point x y)) value.old) }
 {
-    store_wound(checked::winding(corners, ends, P { x, y }), value)
+    store(checked::winding(corners, ends, P { x, y }), value)
 }
 
 #[unsafe(no_mangle)]
