@@ -1,21 +1,21 @@
 -- The turns of the loops: one step, the start and the end of what each works out, and signed sums that fit. Assumes nothing.
 use Prim.Native.Nat.{ℕ, suc, ◌+◌, ◌-◌, ◌*◌, ◌/◌, ◌%◌, ◌^◌, ◌≤◌, ◌<◌}
 use native.Mathlib.Omega.{arith}
-use mathlib.Core.Path.{◌≡◌, sym, ap, ◌∙◌}
+use mathlib.Core.Path.{◌≡◌, sym, ◌∙◌}
 use mathlib.Core.Bool.{Bool, true, false, ◌&&◌, cond}
 use mathlib.Core.List.{List, [], ◌∷◌}
 use lib.Dec.{eqb}
 use lib.ListN.{length, take, drop, get_or, length-take, length-drop}
 use lib.Seq.{drop-drop, length-take-le}
 use lib.IntN.{ℤ, pos, ◌+ℤ◌, nat_abs, +ℤ_assoc, +ℤ_idr}
-use lib.Ieee.{Float, nan, le}
+use lib.Ieee.{Float, le}
 use mir.Syntax.{w64}
 use mir.Val.{SFits, to_z, of_z}
 use borrow.Author.Tests.{le-ltb, lt-ltb, eq-eqb, ne_eqb}
 use Rattle.seqs.specs.Signed.{nat_abs_add, sum_small, back}
 use Rattle.geom.specs.declared.point.P.{P}
 use Rattle.geom.specs.Outline.{points, cut}
-use Rattle.geom.specs.OutlineLaws.{corner_at, points_next, points_end, points_length, points_last, points_part, cut_next, cut_none}
+use Rattle.geom.specs.OutlineLaws.{corner_at, points_next, points_length, points_last, points_part, cut_next, cut_none}
 use Rattle.outlines.specs.Winding.{edge, edges, ring, winding}
 use Rattle.outlines.specs.Runs.{chain, lows, one_side}
 use Rattle.outlines.specs.declared.rule.FillRule.{FillRule}

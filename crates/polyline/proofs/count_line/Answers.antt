@@ -1,11 +1,10 @@
 -- `count_line` meets its contract: the points so far and those of the corners that are left are all. Assumes nothing.
-use mathlib.Core.Path.{◌≡◌, refl, sym, ◌∙◌}
-use Prim.Native.Nat.{◌+◌}
+use mathlib.Core.Path.{◌≡◌, sym, ◌∙◌}
 use native.Mathlib.Omega.{arith}
 use lib.ListN.{length}
 use Rattle.seqs.specs.Capped.{capped_in, capped_over}
 use Rattle.geom.specs.Outline.{points}
-use Rattle.polyline.specs.Line.{piece_steps, pieces_from, resample_keep_corners}
+use Rattle.polyline.specs.Line.{resample_keep_corners}
 use Rattle.polyline.specs.AlikeLaws.{squared}
 use Rattle.polyline.proofs.LineSteps.{line_none, line_count, piece_count, pieces_none}
 use Rattle.polyline.proofs.count_line.Goals as goal

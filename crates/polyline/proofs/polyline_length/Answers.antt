@@ -1,6 +1,6 @@
 -- `polyline_length` meets its contract: what the sum so far and the corners that are left come to is the answer. Assumes nothing.
 use Rattle.std.proofs.Math.Path.{refl}
-use Rattle.std.proofs.Common.{sym, ap, ◌∙◌, rules}
+use Rattle.std.proofs.Common.{sym, ◌∙◌}
 use Rattle.std.specs.Float.Ieee.{of_bits}
 use Rattle.polyline.specs.Line.{length_from, polyline_length}
 use Rattle.polyline.proofs.polyline_length.Goals as goal

@@ -6,7 +6,7 @@ use lib.ListN.{length}
 use Rattle.seqs.specs.Put.{put_none, put_length}
 use Rattle.geom.specs.Sewing.{flat}
 use Rattle.geom.specs.SewingLaws.{flat_none, flat_length}
-use Rattle.polyline.proofs.LineSteps.{line_none, line_of, line_length, put_line_of}
+use Rattle.polyline.proofs.LineSteps.{line_none, line_length, put_line_of}
 use Rattle.polyline.proofs.put_line.Goals as goal
 
 pub returns-in_default : goal.returns-in_default

@@ -1,27 +1,15 @@
 -- `put_steps` meets its contract: the ends of the steps from i on are to be written from `at` on, and then the corner. Assumes nothing.
-use mathlib.Core.Path.{refl}
 use Prim.Native.Nat.{◌-◌}
 use native.Mathlib.Omega.{arith}
-use Rattle.seqs.specs.Front.{front_from, front_at}
+use Rattle.seqs.specs.Front.{front_at}
 use Rattle.seqs.specs.Wrote.{put_end}
 use Rattle.polyline.specs.Line.{steps_from}
 use Rattle.geom.specs.Sewing.{flat}
 use Rattle.geom.specs.SewingLaws.{flat_none}
 use Rattle.polyline.proofs.LineLaws.{steps_size, steps_none}
-use Rattle.polyline.proofs.LineSteps.{step_room, step_put, last_put}
+use Rattle.polyline.proofs.LineSteps.{step_put, last_put}
 use borrow.Author.Rules.{rules}
 use Rattle.polyline.proofs.put_steps.Goals as goal
-
-pub loop-i-init : goal.loop-i-init
-loop-i-init c =
-    let a = c.args in
-    (refl, front_from _ _ a.k (omega (arith, c.requires.1)))
-
-pub put_point-requires : goal.put_point-requires
-put_point-requires c =
-    let a = c.args in
-    let l = c.loop-i in
-    omega (arith, step_room a.k a.a a.b a.n l.i l.invariant.1 c.requires.1 (search rules))
 
 pub loop-i-preserved : goal.loop-i-preserved
 loop-i-preserved c =
@@ -29,11 +17,6 @@ loop-i-preserved c =
     let l = c.loop-i in
     let e = rw c.along.ensures at c.put_point.ensures in
     (omega arith, step_put a.k a.a a.b a.n l.i l.invariant.1 c.requires.1 (search rules) _ e)
-
-pub put_point-requires-2 : goal.put_point-requires-2
-put_point-requires-2 c =
-    let l = c.loop-i in
-    omega (arith, l.invariant.1.len, l.invariant.0, c.requires)
 
 pub returns : goal.returns
 returns c =

@@ -1,4 +1,3 @@
-use Rattle.std.proofs.Common.{sym, ◌∙◌}
 use Rattle.geom.specs.Outline.{points}
 use Rattle.outlines.proofs.Blocks.{tried_start, tried_next, tried_end}
 use Rattle.outlines.proofs.heights.height_of.Goals as goal

@@ -5,7 +5,6 @@ use lib.ListN.{length}
 use Rattle.geom.specs.Outline.{points}
 use Rattle.geom.specs.OutlineLaws.{rising_turn}
 use Rattle.outlines.proofs.Blocks.{rings_all, rings_full, heights_kept, rings_next, start_next, three_size}
-use borrow.Author.Rules.{rules}
 use Rattle.outlines.proofs.heights.ring_heights.Goals as goal
 
 pub loop-k-init : goal.loop-k-init

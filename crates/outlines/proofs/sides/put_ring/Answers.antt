@@ -1,5 +1,4 @@
 use native.Mathlib.Omega.{arith}
-use Rattle.geom.specs.Outline.{points}
 use Rattle.geom.specs.OutlineLaws.{points_length}
 use Rattle.seqs.specs.Wrote.{run_start, run_at, run_end, wrote_none}
 use Rattle.outlines.specs.Sides.{chain_sides}

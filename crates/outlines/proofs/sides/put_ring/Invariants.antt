@@ -1,5 +1,5 @@
-use Prim.Native.Nat.{◌+◌, ◌-◌, ◌*◌, ◌≤◌}
-use lib.ListN.{length, drop}
+use Prim.Native.Nat.{◌+◌, ◌*◌, ◌≤◌}
+use lib.ListN.{length}
 use Rattle.seqs.specs.Wrote.{Run}
 use Rattle.geom.specs.Outline.{points}
 use Rattle.outlines.specs.Sides.{chain_sides, ring_sides}

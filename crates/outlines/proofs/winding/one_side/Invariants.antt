@@ -1,6 +1,5 @@
 use mathlib.Core.Path.{◌≡◌}
-use Prim.Native.Nat.{◌+◌, ◌≤◌}
-use lib.ListN.{length}
+use Prim.Native.Nat.{◌+◌}
 use Rattle.geom.specs.Outline.{points}
 use Rattle.outlines.specs.Runs.{lows}
 use Rattle.outlines.proofs.winding.one_side.Given as goal

@@ -1,5 +1,5 @@
 use mathlib.Core.Path.{◌≡◌}
-use Prim.Native.Nat.{◌-◌, ◌≤◌}
+use Prim.Native.Nat.{◌-◌}
 use Rattle.geom.specs.Rings.{rings_of}
 use Rattle.outlines.specs.Inside.{steps_inside, segment_inside}
 use Rattle.outlines.proofs.area.Area.has_way.Given as goal

@@ -1,12 +1,8 @@
 use mir.Syntax.{w64}
 use mir.ValLaws.{to_z-of_z}
 use Rattle.outlines.specs.Inside.{inside}
-use Rattle.outlines.proofs.Parity.{zero_bits, rem_bits, quot_fits}
-use borrow.Author.Rules.{rules}
+use Rattle.outlines.proofs.Parity.{zero_bits, rem_bits}
 use Rattle.outlines.proofs.rule.FillRule.inside.Goals as goal
-
-pub nonzero_rem-result : goal.nonzero_rem-result
-nonzero_rem-result c = (search rules, rw (to_z-of_z w64 c.args.winding c.ranges.winding) (quot_fits c.args.winding c.ranges.winding))
 
 pub returns-in-NonZero : goal.returns-in-NonZero
 unfolding inside
