@@ -1,7 +1,7 @@
 -- What a job's bytes come to: all that is left behind, from what the job decodes to and from the fill. Definitions only.
 use Rattle.std.specs.Prelude.{ℕ, List, Float}
-use Rattle.jobs.specs.declared.job.Parsed.{Parsed}
-use Rattle.jobs.specs.declared.job.Parsed.TheVariants.{Done, Refused}
+use Rattle.jobs.specs.Parsed.{Parsed}
+use Rattle.jobs.specs.Parsed.{Done, Refused}
 use Rattle.jobs.specs.Job.{corners, ends, parsed}
 use Rattle.tatami.specs.Left.{Left, left, tatami_left}
 

@@ -1,8 +1,8 @@
 -- What a version 2 job's bytes come to (request [6]): all that both fills leave behind. Definitions only.
 use Rattle.std.specs.Prelude.{ℕ, Bool, List, Float}
 use Rattle.rules.specs.declared.Settings.{Settings}
-use Rattle.jobs.specs.declared.job2.Parsed2.{Parsed2}
-use Rattle.jobs.specs.declared.job2.Parsed2.TheVariants.{Done, Refused}
+use Rattle.jobs.specs.Parsed2.{Parsed2}
+use Rattle.jobs.specs.Parsed2.{Done, Refused}
 use Rattle.jobs.specs.Job2.{corners2, ends2, parsed2}
 use Rattle.tatami.specs.declared.Filled.{Filled}
 use Rattle.tatami.specs.Left.{left}

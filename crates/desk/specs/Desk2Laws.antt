@@ -4,8 +4,8 @@ use Rattle.std.proofs.Common.{sym, ◌∙◌}
 use Rattle.std.proofs.Math.Path.{ap}
 use Rattle.jobs.specs.declared.job.Job.{Job}
 use Rattle.jobs.specs.declared.job2.Second.{Second}
-use Rattle.jobs.specs.declared.job2.Parsed2.{Parsed2}
-use Rattle.jobs.specs.declared.job2.Parsed2.TheVariants.{Done, Refused}
+use Rattle.jobs.specs.Parsed2.{Parsed2}
+use Rattle.jobs.specs.Parsed2.{Done, Refused}
 use Rattle.jobs.specs.Job2.{corners2, ends2, parsed2, left2}
 use Rattle.jobs.specs.Theorems.{Accepted}
 use Rattle.jobs.specs.Job2Laws.{accepted2}

@@ -3,8 +3,8 @@ use Rattle.std.specs.Prelude.{◌≡◌, List, ◌++◌, ℕ, ◌*◌, length, t
 use Rattle.std.proofs.Common.{sym, ◌∙◌, take_at}
 use Rattle.std.proofs.Math.Path.{ap}
 use Rattle.jobs.specs.declared.job.Job.{Job}
-use Rattle.jobs.specs.declared.job.Parsed.{Parsed}
-use Rattle.jobs.specs.declared.job.Parsed.TheVariants.{Done, Refused}
+use Rattle.jobs.specs.Parsed.{Parsed}
+use Rattle.jobs.specs.Parsed.{Done, Refused}
 use Rattle.jobs.specs.Job.{good_head, corners, ends, decoded, parsed, left as Job·left}
 use Rattle.jobs.specs.Theorems.{Accepted, accepted}
 use Rattle.tatami.specs.Left.{Left, left, tatami_left}

@@ -9,15 +9,15 @@ use Rattle.geom.specs.Sewing.{flat}
 use Rattle.geom.specs.SewingLaws.{flat_length}
 use Rattle.rules.specs.Calls.{worked, sewn_points, sewn_ends}
 use Rattle.rules.specs.CallLaws.{ends_length}
-use Rattle.jobs.specs.declared.job.Parsed.{Parsed}
-use Rattle.jobs.specs.declared.job.Parsed.TheVariants.{Done, Refused}
+use Rattle.jobs.specs.Parsed.{Parsed}
+use Rattle.jobs.specs.Parsed.{Done, Refused}
 use Rattle.jobs.specs.Job.{good_head, decoded, parsed}
 use Rattle.jobs.specs.Text.{listing, Ends}
 use Rattle.tatami.specs.declared.Filled.{Filled}
 use Rattle.tatami.specs.Left.{Left, left, left_by, tatami_left}
 use Rattle.layers.specs.Layers.{Slices, layer_left, twice_left}
-use Rattle.jobs.specs.declared.job2.Parsed2.{Parsed2}
-use Rattle.jobs.specs.declared.job2.Parsed2.TheVariants.{Done as Done2, Refused as Refused2}
+use Rattle.jobs.specs.Parsed2.{Parsed2}
+use Rattle.jobs.specs.Parsed2.{Done as Done2, Refused as Refused2}
 use Rattle.jobs.specs.Job2.{parsed2}
 use Rattle.desk.specs.Desk.{left_of, job_left}
 use Rattle.desk.specs.Desk2.{left_of2, job2_left}

@@ -2,9 +2,8 @@
 use Rattle.std.specs.Prelude.{◌≡◌, Bool, true, false, cond, List, ℕ, ◌≤◌, ◌<◌, drop, Float}
 use Rattle.std.proofs.Common.{ap, arith}
 use Rattle.refusal.specs.Refusal.{LAYOUT}
-use Rattle.jobs.specs.declared.frame.Framing.{Framing}
-use Rattle.jobs.specs.declared.frame.Framing.TheVariants.{Corners, Badly}
-use Rattle.jobs.specs.declared.job.Parsed.TheVariants.{Refused}
+use Rattle.std.specs.Prelude.{Option, None, Some}
+use Rattle.jobs.specs.Parsed.{Refused}
 use Rattle.jobs.specs.Job.{byte, good_head, counted, framed_job, decoded_by, decoded, parsed}
 use Rattle.jobs.specs.Job2.{good_head2, decoded2, with_second}
 use Rattle.jobs.specs.Job2Laws.{lent_enough2}
@@ -27,9 +26,9 @@ job2_left_enough s f e a b table places h l r = ap (λ p. left_of2 s p a b table
 layout_only : (s t : List ℕ) (good : Bool) (n : ℕ) → decoded_by good s t ≡ Refused n → n ≡ LAYOUT
 layout_only s t good n = go good (counted (byte 7 s) 0 t)
   where
-    go : (g : Bool) (r : Framing) → cond g (framed_job s r) (Refused LAYOUT) ≡ Refused n → n ≡ LAYOUT
-    go true (Corners m) h = let z : ◌≡◌ {A = ℕ} 0 1 = cc in absurd (omega arith)
-    go true Badly h = cc
+    go : (g : Bool) (r : Option ℕ) → cond g (framed_job s r) (Refused LAYOUT) ≡ Refused n → n ≡ LAYOUT
+    go true (Some m) h = let z : ◌≡◌ {A = ℕ} 0 1 = cc in absurd (omega arith)
+    go true None h = cc
     go false r h = cc
 
 pub refused_layout : (s : List ℕ) (n : ℕ) → decoded s ≡ Refused n → n ≡ LAYOUT

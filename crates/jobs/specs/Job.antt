@@ -7,11 +7,10 @@ use Rattle.limits.specs.Limits.{most_corners}
 use Rattle.outlines.specs.declared.rule.FillRule.{FillRule}
 use Rattle.outlines.specs.declared.rule.FillRule.TheVariants.{NonZero, EvenOdd}
 use Rattle.rules.specs.declared.Settings.{Settings}
-use Rattle.jobs.specs.declared.frame.Framing.{Framing}
-use Rattle.jobs.specs.declared.frame.Framing.TheVariants.{Corners, Badly}
+use Rattle.std.specs.Prelude.{Option, None, Some}
 use Rattle.jobs.specs.declared.job.Job.{Job}
-use Rattle.jobs.specs.declared.job.Parsed.{Parsed}
-use Rattle.jobs.specs.declared.job.Parsed.TheVariants.{Done, Refused}
+use Rattle.jobs.specs.Parsed.{Parsed}
+use Rattle.jobs.specs.Parsed.{Done, Refused}
 
 -- ---- numbers
 
@@ -64,10 +63,10 @@ count s = number 0 2 s
 unfoldable pub behind : List ℕ → List ℕ
 behind s = drop (2 + 16 * count s) s
 
--- the corners in all, where k rings follow n corners and end the job: Badly where a ring is cut short, bytes are left over, or there are over 1,024
-unfoldable pub counted : ℕ → ℕ → List ℕ → Framing
-counted zero n s = cond (eqb (length s) 0) (Corners n) Badly
-counted (suc k) n s = cond (leb (2 + 16 * count s) (length s) && leb (n + count s) most_corners) (counted k (n + count s) (behind s)) Badly
+-- the corners in all, where k rings follow n corners and end the job: None where a ring is cut short, bytes are left over, or there are over 1,024
+unfoldable pub counted : ℕ → ℕ → List ℕ → Option ℕ
+counted zero n s = cond (eqb (length s) 0) (Some n) None
+counted (suc k) n s = cond (leb (2 + 16 * count s) (length s) && leb (n + count s) most_corners) (counted k (n + count s) (behind s)) None
 
 -- where each of k rings ends that follow n corners
 unfoldable pub ends_from : ℕ → ℕ → List ℕ → List ℕ
@@ -90,9 +89,9 @@ corners s = corners_from (byte 7 s) (drop head s)
 unfoldable pub ends : List ℕ → List ℕ
 ends s = ends_from (byte 7 s) 0 (drop head s)
 
-abbrev pub framed_job : List ℕ → Framing → Parsed
-framed_job s (Corners n) = Done (job_of s n)
-framed_job s Badly = Refused LAYOUT
+abbrev pub framed_job : List ℕ → Option ℕ → Parsed
+framed_job s (Some n) = Done (job_of s n)
+framed_job s None = Refused LAYOUT
 
 -- by a head that is good or not, and the rings t
 abbrev pub decoded_by : Bool → List ℕ → List ℕ → Parsed

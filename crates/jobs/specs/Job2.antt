@@ -1,10 +1,10 @@
 -- A version 2 job (request [6]): a version 1 job with a second fill's own values behind pull. Definitions only.
 use Rattle.std.specs.Prelude.{ℕ, Bool, ◌&&◌, List, leb, eqb, length, drop, Float}
-use Rattle.jobs.specs.declared.job.Parsed.{Parsed}
-use Rattle.jobs.specs.declared.job.Parsed.TheVariants.{Done, Refused}
+use Rattle.jobs.specs.Parsed.{Parsed}
+use Rattle.jobs.specs.Parsed.{Done, Refused}
 use Rattle.jobs.specs.declared.job2.Second.{Second}
-use Rattle.jobs.specs.declared.job2.Parsed2.{Parsed2}
-use Rattle.jobs.specs.declared.job2.Parsed2.TheVariants.{Done as Done2, Refused as Refused2}
+use Rattle.jobs.specs.Parsed2.{Parsed2}
+use Rattle.jobs.specs.Parsed2.{Done as Done2, Refused as Refused2}
 use Rattle.jobs.specs.Job.{number, byte, good_head, settings_of, ends_from, corners_from, decoded_by, roomed, front}
 
 -- the first fill's 60 bytes; a second bottom-up byte, stagger 32 bits, spacing, len, inset and pull

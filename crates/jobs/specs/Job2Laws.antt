@@ -3,10 +3,10 @@ use Rattle.std.specs.Prelude.{◌≡◌, true, false, List, ℕ, ◌-◌, ◌≤
 use Rattle.std.proofs.Common.{sym, ap, ◌∙◌, arith, length-drop, take_all, drop-drop, leb-true}
 use Rattle.seqs.specs.Tests.{and_both}
 use Rattle.jobs.specs.declared.job.Job.{Job}
-use Rattle.jobs.specs.declared.job.Parsed.{Parsed}
-use Rattle.jobs.specs.declared.job.Parsed.TheVariants.{Done, Refused}
+use Rattle.jobs.specs.Parsed.{Parsed}
+use Rattle.jobs.specs.Parsed.{Done, Refused}
 use Rattle.jobs.specs.declared.job2.Second.{Second}
-use Rattle.jobs.specs.declared.job2.Parsed2.TheVariants.{Done as Done2, Refused as Refused2}
+use Rattle.jobs.specs.Parsed2.{Done as Done2, Refused as Refused2}
 use Rattle.jobs.specs.Job.{byte, counted, ends_from, corners_from, framed_job, roomed, front, left}
 use Rattle.jobs.specs.Theorems.{Accepted, accepted, lent_enough}
 use Rattle.jobs.specs.Job2.{good_head2, second_of, corners2, ends2, decoded2, with_second, parsed2}

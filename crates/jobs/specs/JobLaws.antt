@@ -7,8 +7,8 @@ use borrow.Author.Tests.{le-leb, lt-leb, eq-eqb, ne_eqb, leb-true, leb-false, eq
 use Rattle.seqs.specs.Front.{next}
 use Rattle.seqs.specs.Reads.{fuel_more}
 use Rattle.seqs.specs.Tests.{either, and_both}
-use Rattle.jobs.specs.declared.frame.Framing.TheVariants.{Corners, Badly}
-use Rattle.jobs.specs.declared.job.Parsed.TheVariants.{Done, Refused}
+use Rattle.std.specs.Prelude.{None, Some}
+use Rattle.jobs.specs.Parsed.{Done, Refused}
 use Rattle.jobs.specs.Job.{value, number, float, floats, byte, good_head, count, behind, counted, ends_from, corners_from, job_of, framed_job, roomed, decoded, parsed}
 
 -- ---- numbers
@@ -68,12 +68,12 @@ behind_at s at c e = drop-drop (2 + 16 * count (drop at s)) at s ∙ rw e
 
 -- a ring is whole, or not; there are too many corners, or not
 module _ (n : ℕ) (s : List ℕ) where
-  pub counted_short : (k : ℕ) → 0 < k → length s < 2 + 16 * count s → counted k n s ≡ Badly
+  pub counted_short : (k : ℕ) → 0 < k → length s < 2 + 16 * count s → counted k n s ≡ None
   unfolding counted
   counted_short zero p h = absurd (lt_irrefl 0 p)
   counted_short (suc k) p h = rw (lt-leb _ _ h)
 
-  pub counted_many : (k : ℕ) → 0 < k → 2 + 16 * count s ≤ length s → 1024 < n + count s → counted k n s ≡ Badly
+  pub counted_many : (k : ℕ) → 0 < k → 2 + 16 * count s ≤ length s → 1024 < n + count s → counted k n s ≡ None
   unfolding counted
   counted_many zero p h l = absurd (lt_irrefl 0 p)
   counted_many (suc k) p h l = rw (le-leb _ _ h, lt-leb _ _ l)
@@ -83,11 +83,11 @@ module _ (n : ℕ) (s : List ℕ) where
   counted_next zero p h l = absurd (lt_irrefl 0 p)
   counted_next (suc k) p h l = let e : suc k - 1 ≡ k = omega arith in rw (le-leb _ _ h, le-leb _ _ l, e)
 
-  pub counted_over : 0 < length s → counted 0 n s ≡ Badly
+  pub counted_over : 0 < length s → counted 0 n s ≡ None
   unfolding counted
   counted_over h = rw (ne_eqb (length s) 0 (λ e. absurd (omega arith)))
 
-  pub counted_end : length s ≡ 0 → counted 0 n s ≡ Corners n
+  pub counted_end : length s ≡ 0 → counted 0 n s ≡ Some n
   unfolding counted
   counted_end h = rw (eq-eqb (length s) 0 h)
 
@@ -95,12 +95,12 @@ module _ (n : ℕ) (s : List ℕ) where
 pub record Ring (k n : ℕ) (s : List ℕ) (m : ℕ) : Type 0 where
   pub whole : 2 + 16 * count s ≤ length s
   pub few : n + count s ≤ 1024
-  pub rest : counted (k - 1) (n + count s) (behind s) ≡ Corners m
+  pub rest : counted (k - 1) (n + count s) (behind s) ≡ Some m
 
-badly {ℓ} : {X : Type ℓ} {m : ℕ} → Badly ≡ Corners m → X
+badly {ℓ} : {X : Type ℓ} {m : ℕ} → None ≡ Some m → X
 badly e = let z : ◌≡◌ {A = ℕ} 0 1 = cc in absurd (omega arith)
 
-pub ring : (k n : ℕ) (s : List ℕ) (m : ℕ) → 0 < k → counted k n s ≡ Corners m → Ring k n s m
+pub ring : (k n : ℕ) (s : List ℕ) (m : ℕ) → 0 < k → counted k n s ≡ Some m → Ring k n s m
 ring k n s m p e = go (either (leb (2 + 16 * count s) (length s))) (either (leb (n + count s) 1024))
   where
     go : (leb (2 + 16 * count s) (length s) ≡ true) ⊎ (leb (2 + 16 * count s) (length s) ≡ false) → (leb (n + count s) 1024 ≡ true) ⊎ (leb (n + count s) 1024 ≡ false) → Ring k n s m
@@ -112,14 +112,14 @@ ring k n s m p e = go (either (leb (2 + 16 * count s) (length s))) (either (leb 
     go (inr a) b = badly (sym (counted_short n s k p (leb-false _ _ a)) ∙ e)
 
 -- after the last ring nothing is left
-pub counted_last : (n : ℕ) (s : List ℕ) (m : ℕ) → counted 0 n s ≡ Corners m → n ≡ m
+pub counted_last : (n : ℕ) (s : List ℕ) (m : ℕ) → counted 0 n s ≡ Some m → n ≡ m
 counted_last n s m e = go (either (eqb (length s) 0))
   where
     go : (eqb (length s) 0 ≡ true) ⊎ (eqb (length s) 0 ≡ false) → n ≡ m
-    go (inl a) = let f : Corners n ≡ Corners m = sym (counted_end n s (eqb-true _ _ a)) ∙ e in cc
+    go (inl a) = let f : Some n ≡ Some m = sym (counted_end n s (eqb-true _ _ a)) ∙ e in cc
     go (inr a) = badly (sym (counted_over n s (pos_of_ne-zero (eqb-false _ _ a))) ∙ e)
 
-pub counted_few : (k n : ℕ) (s : List ℕ) (m : ℕ) → n ≤ 1024 → counted k n s ≡ Corners m → m ≤ 1024
+pub counted_few : (k n : ℕ) (s : List ℕ) (m : ℕ) → n ≤ 1024 → counted k n s ≡ Some m → m ≤ 1024
 counted_few zero n s m h e = omega (arith, counted_last n s m e)
 counted_few (suc k) n s m h e =
     let r = ring (suc k) n s m (omega arith) e in
@@ -156,7 +156,7 @@ pub corners_at : (s : List ℕ) (at k c : ℕ) → 0 < k → c ≡ count (drop a
 corners_at s at k c p e = corners_turn k (drop at s) p ∙ rw (behind_at s at c e, drop-drop 2 at s, e)
 
 -- as many as were counted
-pub corners_length : (k n : ℕ) (s : List ℕ) (m : ℕ) → counted k n s ≡ Corners m → 2 * n + length (corners_from k s) ≡ 2 * m
+pub corners_length : (k n : ℕ) (s : List ℕ) (m : ℕ) → counted k n s ≡ Some m → 2 * n + length (corners_from k s) ≡ 2 * m
 corners_length zero n s m e = rw (corners_none s) (omega (arith, counted_last n s m e))
 corners_length (suc k) n s m e =
     let r = ring (suc k) n s m (omega arith) e in
@@ -174,10 +174,10 @@ head_long version s t = leb-true 60 (length s) (and_both (leb 60 (length s)) _ t
 
 -- of a good head, and the rings t
 module _ (s t : List ℕ) (floats ends : ℕ) where
-  pub framed_badly : counted (byte 7 s) 0 t ≡ Badly → Refused 1 ≡ roomed floats ends (framed_job s (counted (byte 7 s) 0 t))
+  pub framed_badly : counted (byte 7 s) 0 t ≡ None → Refused 1 ≡ roomed floats ends (framed_job s (counted (byte 7 s) 0 t))
   framed_badly e = rw e
 
-  module _ (n : ℕ) (e : counted (byte 7 s) 0 t ≡ Corners n) where
+  module _ (n : ℕ) (e : counted (byte 7 s) 0 t ≡ Some n) where
     pub framed_corners : floats < 2 * n → Refused 7 ≡ roomed floats ends (framed_job s (counted (byte 7 s) 0 t))
     unfolding job_of
     framed_corners h = rw (e, lt-leb (2 * n) floats h)

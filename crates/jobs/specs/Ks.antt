@@ -3,8 +3,8 @@ use Rattle.std.specs.Prelude.{◌≡◌, refl, true, false, ℕ, ◌+◌, List, 
 use Rattle.std.specs.Float.Ieee.{round, of_bits}
 use Rattle.numbers.specs.Num.{literal}
 use Rattle.outlines.specs.declared.rule.FillRule.TheVariants.{NonZero}
-use Rattle.jobs.specs.declared.job.Parsed.TheVariants.{Done}
-use Rattle.jobs.specs.declared.job2.Parsed2.TheVariants.{Done as Done2}
+use Rattle.jobs.specs.Parsed.{Done}
+use Rattle.jobs.specs.Parsed2.{Done as Done2}
 use Rattle.jobs.specs.Job.{value, number, float, floats, good_head, rule_of, settings_of, count, behind, counted, ends_from, corners_from, job_of, corners, ends, decoded}
 use Rattle.jobs.specs.Job2.{good_head2, second_of, corners2, ends2, decoded2, with_second}
 

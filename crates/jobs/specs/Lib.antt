@@ -7,3 +7,5 @@ pub mod JobLaws
 pub mod Theorems
 pub mod Job2Laws
 pub mod Ks
+pub mod Parsed
+pub mod Parsed2

@@ -9,10 +9,9 @@ use borrow.Author.Tests.{le-leb, eq-eqb, leb-true, leb-false, ltb-true, ltb-fals
 use Rattle.seqs.specs.Tests.{either}
 use Rattle.geom.specs.Outline.{rising}
 use Rattle.limits.specs.Limits.{good_outline}
-use Rattle.jobs.specs.declared.frame.Framing.{Framing}
-use Rattle.jobs.specs.declared.frame.Framing.TheVariants.{Corners, Badly}
+use Rattle.std.specs.Prelude.{Option, None, Some}
 use Rattle.jobs.specs.declared.job.Job.{Job}
-use Rattle.jobs.specs.declared.job.Parsed.TheVariants.{Done, Refused}
+use Rattle.jobs.specs.Parsed.{Done, Refused}
 use Rattle.jobs.specs.Job.{byte, count, behind, counted, ends_from, corners_from, job_of, framed_job, decoded_by, roomed}
 use Rattle.jobs.specs.Text.{places}
 use Rattle.jobs.specs.JobLaws.{ring, counted_last, counted_few, ends_turn, ends_none, ends_length, corners_length, framed_badly, framed_corners, framed_ends, framed_done}
@@ -20,7 +19,7 @@ use Rattle.jobs.specs.JobLaws.{ring, counted_last, counted_few, ends_turn, ends_
 -- ---- accepted jobs
 
 -- ring ends of rings that are well framed never fall, and the last is the corner count
-rings_rise : (k n : ℕ) (s : List ℕ) (m : ℕ) → counted k n s ≡ Corners m → rising n (ends_from k n s) m ≡ true
+rings_rise : (k n : ℕ) (s : List ℕ) (m : ℕ) → counted k n s ≡ Some m → rising n (ends_from k n s) m ≡ true
 unfolding rising
 rings_rise zero n s m e = rw (ends_none n s) (eq-eqb n m (counted_last n s m e))
 rings_rise (suc k) n s m e =
@@ -42,7 +41,7 @@ refuses {ℓ} : {X : Type ℓ} {n : ℕ} {j : Job} → Refused n ≡ Done j → 
 refuses e = let z : ◌≡◌ {A = ℕ} 0 1 = cc in absurd (omega arith)
 
 module _ (s t : List ℕ) where
-  outline : (n : ℕ) → counted (byte 7 s) 0 t ≡ Corners n → byte 7 s < 256 → good_outline (corners_from (byte 7 s) t) (ends_from (byte 7 s) 0 t) ≡ true
+  outline : (n : ℕ) → counted (byte 7 s) 0 t ≡ Some n → byte 7 s < 256 → good_outline (corners_from (byte 7 s) t) (ends_from (byte 7 s) 0 t) ≡ true
   unfolding good_outline
   outline n e h =
       let a : length (corners_from (byte 7 s) t) ≡ 2 * n = omega (arith, corners_length (byte 7 s) 0 t n e) in
@@ -52,7 +51,7 @@ module _ (s t : List ℕ) where
       let f = counted_few (byte 7 s) 0 t n (omega arith) e in
       rw (c, d, b, le-leb (byte 7 s) 255 (omega arith), le-leb n 1024 f) (rings_rise (byte 7 s) 0 t n e)
 
-  made : (f r n : ℕ) → counted (byte 7 s) 0 t ≡ Corners n → 2 * n ≤ f → byte 7 s ≤ r → Accepted s t f r (job_of s n)
+  made : (f r n : ℕ) → counted (byte 7 s) 0 t ≡ Some n → 2 * n ≤ f → byte 7 s ≤ r → Accepted s t f r (job_of s n)
   unfolding job_of
   made f r n e h l = record {
     is = refl;
@@ -68,7 +67,7 @@ module _ (s t : List ℕ) where
   pub accepted : (good : Bool) (f r : ℕ) (j : Job) → roomed f r (decoded_by good s t) ≡ Done j → Accepted s t f r j
   accepted good f r j = go good (counted (byte 7 s) 0 t) refl
     where
-      fits : (n : ℕ) → counted (byte 7 s) 0 t ≡ Corners n → roomed f r (framed_job s (counted (byte 7 s) 0 t)) ≡ Done j
+      fits : (n : ℕ) → counted (byte 7 s) 0 t ≡ Some n → roomed f r (framed_job s (counted (byte 7 s) 0 t)) ≡ Done j
           → (leb (2 * n) f ≡ true) ⊎ (leb (2 * n) f ≡ false) → (leb (byte 7 s) r ≡ true) ⊎ (leb (byte 7 s) r ≡ false) → Accepted s t f r j
       fits n e p (inl a) (inl b) =
           let h = leb-true (2 * n) f a in
@@ -79,9 +78,9 @@ module _ (s t : List ℕ) where
       fits n e p (inl a) (inr b) = refuses (framed_ends s t f r n e (leb-true (2 * n) f a) (leb-false (byte 7 s) r b) ∙ p)
       fits n e p (inr a) b = refuses (framed_corners s t f r n e (leb-false (2 * n) f a) ∙ p)
 
-      go : (g : Bool) (w : Framing) → counted (byte 7 s) 0 t ≡ w → roomed f r (decoded_by g s t) ≡ Done j → Accepted s t f r j
-      go true (Corners n) e p = fits n e p (either (leb (2 * n) f)) (either (leb (byte 7 s) r))
-      go true Badly e p = refuses (framed_badly s t f r e ∙ p)
+      go : (g : Bool) (w : Option ℕ) → counted (byte 7 s) 0 t ≡ w → roomed f r (decoded_by g s t) ≡ Done j → Accepted s t f r j
+      go true (Some n) e p = fits n e p (either (leb (2 * n) f)) (either (leb (byte 7 s) r))
+      go true None e p = refuses (framed_badly s t f r e ∙ p)
       go false w e p = refuses p
 
   -- where 2,048 floats and 255 ends are lent, ROOM is never given
@@ -89,9 +88,9 @@ module _ (s t : List ℕ) where
   unfolding job_of
   lent_enough good f r h l b = go good (counted (byte 7 s) 0 t) refl
     where
-      go : (g : Bool) (w : Framing) → counted (byte 7 s) 0 t ≡ w → roomed f r (decoded_by g s t) ≡ decoded_by g s t
-      go true (Corners n) e = rw (e, le-leb (2 * n) f (omega (arith, counted_few (byte 7 s) 0 t n (omega arith) e)), le-leb (byte 7 s) r (omega arith))
-      go true Badly e = rw e
+      go : (g : Bool) (w : Option ℕ) → counted (byte 7 s) 0 t ≡ w → roomed f r (decoded_by g s t) ≡ decoded_by g s t
+      go true (Some n) e = rw (e, le-leb (2 * n) f (omega (arith, counted_few (byte 7 s) 0 t n (omega arith) e)), le-leb (byte 7 s) r (omega arith))
+      go true None e = rw e
       go false w e = refl
 
 -- ---- digits

@@ -12,13 +12,6 @@ pub const HEAD: usize = 60;
 // Those of a version 2 job: the second fill's values are 37.
 const HEAD2: usize = 97;
 
-// What the rings come to.
-#[derive(Clone, Copy)]
-pub enum Framing {
-    Corners(usize),
-    Badly,
-}
-
 // The length, the version, and the bytes that are 0 or 1.
 #[tactic(auto, unfolding(crate::specs::Job::good_head))]
 pub fn good_head(s: &[u8], version: u8) -> bool
@@ -39,8 +32,8 @@ pub fn good_head2(s: &[u8]) -> bool
     s.len() >= HEAD2 && s[60] <= 1 && good_head(s, 2)
 }
 
-// The corners of so many rings, which stand behind the head and end the job.
-pub fn count_corners(s: &[u8], rings: usize) -> Framing
+// The corners of so many rings, which stand behind the head and end the job; none where they are badly framed.
+pub fn count_corners(s: &[u8], rings: usize) -> Option<usize>
     requires { head ≤ length s.now }
     ensures { result ≡ counted rings 0 (drop head s.now) }
 {
@@ -48,20 +41,20 @@ pub fn count_corners(s: &[u8], rings: usize) -> Framing
     let mut n = 0;
     for _ in 0..rings {
         if s.len() - at < 2 {
-            return Framing::Badly;
+            return None;
         }
         let c = count_at(s, at);
         if s.len() - at < 2 + 16 * c {
-            return Framing::Badly;
+            return None;
         }
         if n + c > MOST_CORNERS {
-            return Framing::Badly;
+            return None;
         }
         at += 2 + 16 * c;
         n += c;
     }
     if at < s.len() {
-        return Framing::Badly;
+        return None;
     }
-    Framing::Corners(n)
+    Some(n)
 }

@@ -1,12 +1,13 @@
 // A job read from its bytes.
 ghost use Rattle.std.specs.Prelude.{◌≡◌, ◌+◌, ◌≤◌, length, drop};
+ghost use Rattle.jobs.specs.Parsed.{said_parsed};
 ghost use Rattle.jobs.specs.Job.{byte, head, rule_of, settings_of, counted, ends_from, corners_from, job_of, framed_job, roomed, corners as Job·corners, ends as Job·ends, parsed, left};
 
-use crate::frame::{Framing, count_corners, good_head};
+use crate::frame::{count_corners, good_head};
 use crate::number::{float_at, number_at};
 use crate::rings::{write_corners, write_ends};
 use outlines::FillRule;
-use refusal::{LAYOUT, ROOM};
+use refusal::{Refusal, unless};
 use rules::Settings;
 
 // A job's values; its corners and ring ends stand in the lent slices.
@@ -18,13 +19,6 @@ pub struct Job {
     pub settings: Settings,
     pub corners: usize,
     pub rings: usize,
-}
-
-// A job, or the number of a refusal.
-#[derive(Clone, Copy)]
-pub enum Parsed {
-    Done(Job),
-    Refused(u64),
 }
 
 fn rule_of(b: u8) -> FillRule
@@ -69,37 +63,34 @@ fn job_of(s: &[u8], corners: usize) -> Job
 }
 
 // The job of a good head, where the rings begin at place 60 of `rest`. The whole framing is checked first; then corners and ring ends are written to the front of the lent slices.
-pub fn framed(bytes: &[u8], rest: &[u8], corners: &mut [f64], ends: &mut [usize]) -> Parsed
+pub fn framed(
+    bytes: &[u8],
+    rest: &[u8],
+    corners: &mut [f64],
+    ends: &mut [usize],
+) -> Result<Job, Refusal>
     requires { (head ≤ length bytes.now) × (head ≤ length rest.now) }
-    ensures value { result ≡ roomed (length corners.old) (length ends.old) (framed_job bytes.now (counted (byte 7 bytes.now) 0 (drop head rest.now))) }
-    ensures corners_after { corners.new ≡ left result (corners_from (byte 7 bytes.now) (drop head rest.now)) corners.old }
-    ensures ends_after { ends.new ≡ left result (ends_from (byte 7 bytes.now) 0 (drop head rest.now)) ends.old }
+    ensures value { said_parsed result ≡ roomed (length corners.old) (length ends.old) (framed_job bytes.now (counted (byte 7 bytes.now) 0 (drop head rest.now))) }
+    ensures corners_after { corners.new ≡ left (said_parsed result) (corners_from (byte 7 bytes.now) (drop head rest.now)) corners.old }
+    ensures ends_after { ends.new ≡ left (said_parsed result) (ends_from (byte 7 bytes.now) 0 (drop head rest.now)) ends.old }
 {
     let rings = bytes[7] as usize;
-    match count_corners(rest, rings) {
-        Framing::Badly => Parsed::Refused(LAYOUT),
-        Framing::Corners(n) => {
-            if corners.len() < 2 * n {
-                return Parsed::Refused(ROOM);
-            }
-            if ends.len() < rings {
-                return Parsed::Refused(ROOM);
-            }
-            write_ends(rest, rings, ends);
-            write_corners(rest, rings, corners);
-            Parsed::Done(job_of(bytes, n))
-        }
-    }
+    let Some(n) = count_corners(rest, rings) else {
+        return Err(Refusal::Layout);
+    };
+    unless(Refusal::Room, 2 * n <= corners.len())?;
+    unless(Refusal::Room, rings <= ends.len())?;
+    write_ends(rest, rings, ends);
+    write_corners(rest, rings, corners);
+    Ok(job_of(bytes, n))
 }
 
 // Reads a job.
-pub fn parse(bytes: &[u8], corners: &mut [f64], ends: &mut [usize]) -> Parsed
-    ensures value { result ≡ parsed bytes.now (length corners.old) (length ends.old) }
-    ensures corners_after { corners.new ≡ left result (Job·corners bytes.now) corners.old }
-    ensures ends_after { ends.new ≡ left result (Job·ends bytes.now) ends.old }
+pub fn parse(bytes: &[u8], corners: &mut [f64], ends: &mut [usize]) -> Result<Job, Refusal>
+    ensures value { said_parsed result ≡ parsed bytes.now (length corners.old) (length ends.old) }
+    ensures corners_after { corners.new ≡ left (said_parsed result) (Job·corners bytes.now) corners.old }
+    ensures ends_after { ends.new ≡ left (said_parsed result) (Job·ends bytes.now) ends.old }
 {
-    if !good_head(bytes, 1) {
-        return Parsed::Refused(LAYOUT);
-    }
+    unless(Refusal::Layout, good_head(bytes, 1))?;
     framed(bytes, bytes, corners, ends)
 }

@@ -9,6 +9,6 @@ mod lines;
 pub mod number;
 mod rings;
 
-pub use job::{Job, Parsed, parse};
-pub use job2::{Parsed2, Second, parse2};
+pub use job::{Job, parse};
+pub use job2::{Second, parse2};
 pub use lines::listing;
