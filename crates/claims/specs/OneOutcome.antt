@@ -1,18 +1,15 @@
 -- Any two outcomes that a call's contract allows are equal: one theorem for each call of docs/CALLS.md. Assumes nothing.
 -- The contracts are the source's own: of a function f, `f_contract.ended` is its signature and `f.Reads.Learnt` what rattle makes of its `ensures` and tells every caller. No theorem says their words again, so a contract that leaves a choice open is refused here.
-use Rattle.std.specs.Prelude.{ℕ, ◌≡◌, refl, List, ◌++◌, length, drop, Float}
+use Rattle.std.specs.Prelude.{ℕ, ◌≡◌, refl, cond, eqb, Result, Ok, Err, List, ◌++◌, length, drop, Float}
 use Rattle.std.proofs.Common.{sym, ap, ◌∙◌, arith}
 use contract.Lifetimes.{Lfts}
 use denote.Triple.Entry.{Args, Res}
 use denote.Triple.Clauses.{Ended, Lasts, AtExit, at_exit}
-use Rattle.refusal.specs.Refusal.{done}
-use Rattle.refusal.specs.AnswerLaws.{done_one, done_refused, refused_done, refused_one}
-use Rattle.leaves.specs.declared.checked.Leaf.{Leaf}
-use Rattle.leaves.specs.declared.checked.Leaf.TheVariants as leaf
-use Rattle.leaves.specs.declared.checked.Place.{Place}
-use Rattle.leaves.specs.declared.checked.Place.TheVariants as place
-use Rattle.leaves.specs.Answer.{said, said_place}
-use Rattle.geometry.specs.AnswersLaws.{spot_one, wound_one, truth_one}
+use Rattle.std.specs.declared.cmp.Ordering.{Ordering}
+use Rattle.std.specs.declared.cmp.Ordering.TheVariants.{Less, Equal, Greater}
+use Rattle.refusal.specs.declared.Refusal.{Refusal}
+use Rattle.refusal.specs.AnswerLaws.{done_one, done_refused, refused_done, refused_one, number_one, said_one, said_sewn_one, said_written_one}
+use Rattle.leaves.specs.Answer.{place, said_order}
 use Rattle.satinrules.specs.SettingsLaws.{said_one}
 use Rattle.patterns.specs.SaidLaws.{box_one}
 use Rattle.tatami.specs.declared.Filled.{Filled}
@@ -141,32 +138,20 @@ One call says = (κs : Lfts call.signature.lifetimes) (a : Args call.signature �
 
 -- ---- an answer has one meaning
 
-leaf_one : (r s : Leaf) → said r ≡ said s → r ≡ s
-leaf_one (leaf.Value v) (leaf.Value w) e = ap leaf.Value (done_one e)
-leaf_one (leaf.Value v) (leaf.Refused n) e = absurd (done_refused e)
-leaf_one (leaf.Refused m) (leaf.Value w) e = absurd (refused_done e)
-leaf_one (leaf.Refused m) (leaf.Refused n) e = ap leaf.Refused (refused_one Float e)
+place_of : ℕ → Ordering
+place_of n = cond (eqb n 0) Less (cond (eqb n 1) Equal Greater)
 
-apart : (m n : ℕ) → done m ≡ done n → (m ≡ n → ⊥) → ⊥
-apart m n e h = h (done_one e)
+of_place : (o : Ordering) → place_of (place o) ≡ o
+unfolding place_of
+of_place Less = refl
+of_place Equal = refl
+of_place Greater = refl
 
-place_one : (r s : Place) → said_place r ≡ said_place s → r ≡ s
-place_one place.Before place.Before e = refl
-place_one place.Before place.Same e = absurd (apart 0 1 e (omega arith))
-place_one place.Before place.After e = absurd (apart 0 2 e (omega arith))
-place_one place.Before (place.Refused n) e = absurd (done_refused e)
-place_one place.Same place.Before e = absurd (apart 1 0 e (omega arith))
-place_one place.Same place.Same e = refl
-place_one place.Same place.After e = absurd (apart 1 2 e (omega arith))
-place_one place.Same (place.Refused n) e = absurd (done_refused e)
-place_one place.After place.Before e = absurd (apart 2 0 e (omega arith))
-place_one place.After place.Same e = absurd (apart 2 1 e (omega arith))
-place_one place.After place.After e = refl
-place_one place.After (place.Refused n) e = absurd (done_refused e)
-place_one (place.Refused m) place.Before e = absurd (refused_done e)
-place_one (place.Refused m) place.Same e = absurd (refused_done e)
-place_one (place.Refused m) place.After e = absurd (refused_done e)
-place_one (place.Refused m) (place.Refused n) e = ap place.Refused (refused_one ℕ e)
+order_one : (r s : Result Ordering Refusal) → said_order r ≡ said_order s → r ≡ s
+order_one (Ok o) (Ok q) e = ap Ok (sym (of_place o) ∙ ap place_of (done_one e) ∙ of_place q)
+order_one (Ok o) (Err f) e = absurd (done_refused e)
+order_one (Err f) (Ok q) e = absurd (refused_done e)
+order_one (Err f) (Err g) e = ap Err (number_one f g (refused_one ℕ e))
 
 -- ---- parts of an outcome, each said by an equation
 
@@ -179,96 +164,96 @@ one p q = p ∙ sym q
 -- ---- the numbers
 
 pub root_outcome : One root_contract.ended root.Reads.Learnt
-root_outcome κs a x y h k = both (leaf_one _ _ (one h k)) refl
+root_outcome κs a x y h k = both (said_one _ _ (one h k)) refl
 
 pub floor_outcome : One floor_contract.ended floor.Reads.Learnt
-floor_outcome κs a x y h k = both (leaf_one _ _ (one h k)) refl
+floor_outcome κs a x y h k = both (said_one _ _ (one h k)) refl
 
 pub ceil_outcome : One ceil_contract.ended ceil.Reads.Learnt
-ceil_outcome κs a x y h k = both (leaf_one _ _ (one h k)) refl
+ceil_outcome κs a x y h k = both (said_one _ _ (one h k)) refl
 
 pub magnitude_outcome : One magnitude_contract.ended magnitude.Reads.Learnt
-magnitude_outcome κs a x y h k = both (leaf_one _ _ (one h k)) refl
+magnitude_outcome κs a x y h k = both (said_one _ _ (one h k)) refl
 
 pub smaller_outcome : One smaller_contract.ended smaller.Reads.Learnt
-smaller_outcome κs a x y h k = both (leaf_one _ _ (one h k)) refl
+smaller_outcome κs a x y h k = both (said_one _ _ (one h k)) refl
 
 pub larger_outcome : One larger_contract.ended larger.Reads.Learnt
-larger_outcome κs a x y h k = both (leaf_one _ _ (one h k)) refl
+larger_outcome κs a x y h k = both (said_one _ _ (one h k)) refl
 
 pub order_outcome : One order_contract.ended order.Reads.Learnt
-order_outcome κs a x y h k = both (place_one _ _ (one h k)) refl
+order_outcome κs a x y h k = both (order_one _ _ (one h k)) refl
 
 -- ---- the geometry
 
 pub dot_outcome : One dot_contract.ended dot.Reads.Learnt
-dot_outcome κs a x y h k = both (leaf_one _ _ (one h k)) refl
+dot_outcome κs a x y h k = both (said_one _ _ (one h k)) refl
 
 pub len_outcome : One len_contract.ended len.Reads.Learnt
-len_outcome κs a x y h k = both (leaf_one _ _ (one h k)) refl
+len_outcome κs a x y h k = both (said_one _ _ (one h k)) refl
 
 pub dist_outcome : One dist_contract.ended dist.Reads.Learnt
-dist_outcome κs a x y h k = both (leaf_one _ _ (one h k)) refl
+dist_outcome κs a x y h k = both (said_one _ _ (one h k)) refl
 
 pub norm_outcome : One norm_contract.ended norm.Reads.Learnt
-norm_outcome κs a x y h k = both (spot_one _ _ (one h k)) refl
+norm_outcome κs a x y h k = both (said_one _ _ (one h k)) refl
 
 pub perp_outcome : One perp_contract.ended perp.Reads.Learnt
-perp_outcome κs a x y h k = both (spot_one _ _ (one h k)) refl
+perp_outcome κs a x y h k = both (said_one _ _ (one h k)) refl
 
 pub rotate_outcome : One rotate_contract.ended rotate.Reads.Learnt
-rotate_outcome κs a x y h k = both (spot_one _ _ (one h k)) refl
+rotate_outcome κs a x y h k = both (said_one _ _ (one h k)) refl
 
 pub lerp_outcome : One lerp_contract.ended lerp.Reads.Learnt
-lerp_outcome κs a x y h k = both (spot_one _ _ (one h k)) refl
+lerp_outcome κs a x y h k = both (said_one _ _ (one h k)) refl
 
 pub cross_outcome : One cross_contract.ended cross.Reads.Learnt
-cross_outcome κs a x y h k = both (leaf_one _ _ (one h k)) refl
+cross_outcome κs a x y h k = both (said_one _ _ (one h k)) refl
 
 pub inside_outcome : One inside_contract.ended inside.Reads.Learnt
-inside_outcome κs a x y h k = both (truth_one _ _ (one h k)) refl
+inside_outcome κs a x y h k = both (said_one _ _ (one h k)) refl
 
 pub winding_outcome : One winding_contract.ended winding.Reads.Learnt
-winding_outcome κs a x y h k = both (wound_one _ _ (one h k)) refl
+winding_outcome κs a x y h k = both (said_one _ _ (one h k)) refl
 
 pub point_inside_outcome : One point_inside_contract.ended point_inside.Reads.Learnt
-point_inside_outcome κs a x y h k = both (truth_one _ _ (one h k)) refl
+point_inside_outcome κs a x y h k = both (said_one _ _ (one h k)) refl
 
 pub segment_inside_outcome : One segment_inside_contract.ended segment_inside.Reads.Learnt
-segment_inside_outcome κs a x y h k = both (truth_one _ _ (one h k)) refl
+segment_inside_outcome κs a x y h k = both (said_one _ _ (one h k)) refl
 
 pub polyline_length_outcome : One polyline_length_contract.ended polyline_length.Reads.Learnt
-polyline_length_outcome κs a x y h k = both (leaf_one _ _ (one h k)) refl
+polyline_length_outcome κs a x y h k = both (said_one _ _ (one h k)) refl
 
 pub resample_keep_corners_outcome : One resample_keep_corners_contract.ended resample_keep_corners.Reads.Learnt
-resample_keep_corners_outcome κs a x y h k = both (one h.0 k.0) (λ i. (tt, (tt, (one h.1 k.1 i, tt))))
+resample_keep_corners_outcome κs a x y h k = both (said_sewn_one _ _ (one h.0 k.0)) (λ i. (tt, (tt, (one h.1 k.1 i, tt))))
 
 -- ---- running stitch, satin, patterns
 
 pub running_outcome : One running_contract.ended running.Reads.Learnt
-running_outcome κs a x y h k = both (one h.0 k.0) (λ i. (tt, (tt, (tt, (tt, (one h.1 k.1 i, tt))))))
+running_outcome κs a x y h k = both (said_sewn_one _ _ (one h.0 k.0)) (λ i. (tt, (tt, (tt, (tt, (one h.1 k.1 i, tt))))))
 
 pub made_outcome : One made_contract.ended made.Reads.Learnt
 made_outcome κs a x y h k = both (said_one _ _ (one h k)) refl
 
 pub pairs_outcome : One pairs_contract.ended pairs.Reads.Learnt
-pairs_outcome κs a x y h k = both (one h.0 k.0) (λ i. (tt, (tt, (tt, (tt, (one h.2 k.2 i, (one h.1 k.1 i, tt)))))))
+pairs_outcome κs a x y h k = both (said_sewn_one _ _ (one h.0 k.0)) (λ i. (tt, (tt, (tt, (tt, (one h.2 k.2 i, (one h.1 k.1 i, tt)))))))
 
 pub split_long_outcome : One split_long_contract.ended split_long.Reads.Learnt
-split_long_outcome κs a x y h k = both (one h.0 k.0) (λ i. (tt, (tt, (one h.1 k.1 i, tt))))
+split_long_outcome κs a x y h k = both (said_sewn_one _ _ (one h.0 k.0)) (λ i. (tt, (tt, (one h.1 k.1 i, tt))))
 
 pub s_stitch_outcome : One s_stitch_contract.ended s_stitch.Reads.Learnt
-s_stitch_outcome κs a x y h k = both (one h.0 k.0) (λ i. (tt, (one h.1 k.1 i, tt)))
+s_stitch_outcome κs a x y h k = both (said_sewn_one _ _ (one h.0 k.0)) (λ i. (tt, (one h.1 k.1 i, tt)))
 
 pub column_outcome : One column_contract.ended column.Reads.Learnt
-column_outcome κs a x y h k = both (one h.0 k.0) (λ i. (tt, (tt, (tt, (tt, (one h.2 k.2 i, (one h.1 k.1 i, tt)))))))
+column_outcome κs a x y h k = both (said_sewn_one _ _ (one h.0 k.0)) (λ i. (tt, (tt, (tt, (tt, (one h.2 k.2 i, (one h.1 k.1 i, tt)))))))
 
 -- the two halves of a column (document 02)
 pub underlay_outcome : One underlay_contract.ended underlay.Reads.Learnt
 underlay_outcome κs a x y h k = both (one h.0 k.0) (λ i. (tt, (tt, (tt, (tt, (one h.2 k.2 i, (one h.1 k.1 i, tt)))))))
 
 pub top_outcome : One top_contract.ended top.Reads.Learnt
-top_outcome κs a x y h k = both (one h.0 k.0) (λ i. (tt, (tt, (tt, (tt, (tt, (one h.2 k.2 i, (one h.1 k.1 i, tt))))))))
+top_outcome κs a x y h k = both (said_sewn_one _ _ (one h.0 k.0)) (λ i. (tt, (tt, (tt, (tt, (tt, (one h.2 k.2 i, (one h.1 k.1 i, tt))))))))
 
 pub pairs_room_outcome : One pairs_room_contract.ended pairs_room.Reads.Learnt
 pairs_room_outcome κs a x y h k = both (one h k) refl
@@ -283,7 +268,7 @@ pub clip_inside_outcome : One clip_inside_contract.ended clip_inside.Reads.Learn
 clip_inside_outcome κs a x y h k = both (one h.0 k.0) (λ i. (tt, (tt, (tt, (tt, (one h.1 k.1 i, (one h.2 k.2 i, tt)))))))
 
 pub cross_stitch_outcome : One cross_stitch_contract.ended cross_stitch.Reads.Learnt
-cross_stitch_outcome κs a x y h k = both (one h.0 k.0) (λ i. (tt, (tt, (tt, (tt, (one h.1 k.1 i, (one h.2 k.2 i, tt)))))))
+cross_stitch_outcome κs a x y h k = both (said_sewn_one _ _ (one h.0 k.0)) (λ i. (tt, (tt, (tt, (tt, (one h.1 k.1 i, (one h.2 k.2 i, tt)))))))
 
 pub meander_outcome : One meander_contract.ended meander.Reads.Learnt
 meander_outcome κs a x y h k = both (one h.0 k.0) (λ i. (tt, (tt, (tt, (tt, (tt, (tt, (one h.1 k.1 i, (one h.2 k.2 i, (one h.3 k.3 i, tt))))))))))
