@@ -1,4 +1,4 @@
--- A ring that is a part of the corner list has no more kept edges than corners. Assumes nothing.
+-- An outline has no more kept edges than corners. Assumes nothing.
 use Rattle.std.specs.Prelude.{◌≡◌, ℕ, true, leb, ◌-◌, ◌/◌, ◌≤◌, List, [], ◌∷◌, length, take, drop, Float}
 use Rattle.std.proofs.Common.{arith, leb-true, length-append, length-take}
 use Rattle.seqs.specs.Lists.{each}
@@ -9,11 +9,6 @@ use Rattle.geom.specs.OutlineLaws.{points_length, rising_le}
 use Rattle.rules.specs.declared.Settings.{Settings}
 use Rattle.rules.specs.Fill.{kept_side, sides, turned, edges}
 use Rattle.rules.proofs.Counts.{ring_edges_lem}
-use Rattle.edges.specs.Table.{ring_edges}
-
-pub flat_few : (g : Settings) (l : List Float) → length (ring_edges g (points l)) ≤ length l / 2
-unfolding ring_edges
-flat_few g l = omega (arith, ring_edges_lem g (points l), points_length l)
 
 -- rings that are cut from a list have no more kept edges than it has corners
 cut_few : (g : Settings) (a : ℕ) (ends : List ℕ) (l : List P) → rising a ends (length l) ≡ true → length (edges g (cut a ends l)) ≤ length l - a

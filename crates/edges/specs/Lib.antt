@@ -4,6 +4,5 @@ pub mod TableLaws
 pub mod Span
 pub mod SpanLaws
 pub mod EdgeCount
-pub mod SideLaws
 pub mod Sides
 pub mod SidesLaws

@@ -13,7 +13,7 @@ use rules::Settings;
 use std::marker::Model;
 
 // Corners are turned by (c, -s).
-pub fn turned(g: Settings, p: P) -> P
+fn turned(g: Settings, p: P) -> P
     ensures { result ≡ rotate p g.cosine (neg g.sine) }
 {
     p.rotate(g.cosine, -g.sine)
