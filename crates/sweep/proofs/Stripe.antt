@@ -1,8 +1,6 @@
 -- The stripe of places through a row. Assumes nothing.
-use Rattle.std.specs.Prelude.{ℕ, ◌+◌, ◌≤◌, ◌<◌, ◌≡◌, Bool, true, false, List, [], ◌∷◌, ◌++◌, length, take, drop, get_or, Float}
+use Rattle.std.specs.Prelude.{ℕ, ◌≤◌, ◌≡◌, Bool, List, ◌++◌, length, take, drop, Float}
 use Rattle.std.proofs.Common.{arith, ap, ◌∙◌, length-take-le}
-use Rattle.seqs.specs.Lists.{take_while, drop_while}
-use Rattle.seqs.specs.Front.{next, none}
 use Rattle.seqs.specs.Reads.{drop_on}
 use Rattle.seqs.specs.Parts.{head_size, head_is, head_later}
 use Rattle.rules.specs.declared.Edge.{Edge}
@@ -10,20 +8,6 @@ use Rattle.sweep.specs.declared.key.Key.TheVariants.{X}
 use Rattle.sweep.specs.declared.active.Live.{Live}
 use Rattle.sweep.specs.Swept.{ordered, enters, stays, places, Retained, Admitted, Gathered}
 use Rattle.sweep.specs.SweptLaws.{ordered_length}
-
--- ---- a loop that takes up while a test holds
-
-module _ (q : ℕ → Bool) (d : List ℕ) (i : ℕ) where
-  pub take_stop : i < length d → q (get_or d i 0) ≡ false → (take_while q (drop i d) ≡ []) × (drop_while q (drop i d) ≡ drop i d)
-  take_stop h e = (rw (next d i 0 h, e), rw (next d i 0 h, e))
-
-  pub take_go : i < length d → q (get_or d i 0) ≡ true → (take_while q (drop i d) ≡ get_or d i 0 ∷ take_while q (drop (i + 1) d)) × (drop_while q (drop i d) ≡ drop_while q (drop (i + 1) d))
-  take_go h e = (rw (next d i 0 h, e), rw (next d i 0 h, e))
-
-  pub take_end : length d ≤ i → (take_while q (drop i d) ≡ []) × (drop_while q (drop i d) ≡ drop i d)
-  take_end h = (rw (none d i h), rw (none d i h))
-
--- ---- gather
 
 module _ (upward : Bool) (es : List Edge) (y : Float) (live : Live) {r : ℕ} {d d1 d2 s : List ℕ} {l : Live} (le : live.m ≤ live.next)
     (one : Retained (stays upward es y) live.m d d1 r) (two : Admitted (stays upward es y) (enters upward es y) r live.next d1 d2 l) (sorted : s ≡ ordered (X y) es (take l.m d2)) where

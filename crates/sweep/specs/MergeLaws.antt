@@ -140,9 +140,6 @@ module _ {A : Type 0} (le : A → A → Bool) where
     pub count : i + (length a + length b) ≡ length d
     pub sofar : take i d ++ merge_by le a b ≡ whole
 
-  pub merging_start : (d a b : List A) → length d ≡ length a + length b → Merging d 0 a b (merge_by le a b)
-  merging_start d a b h = record { count = omega arith; sofar = refl }
-
   module _ {d : List A} {i : ℕ} {a b whole : List A} (z : A) (v : Merging d i a b whole) where
     -- the one that is put is x, the first of either
     step : (x : A) (a' b' : List A) → merge_by le a b ≡ x ∷ merge_by le a' b' → i < length d → take (i + 1) (set d i x) ++ merge_by le a' b' ≡ whole
