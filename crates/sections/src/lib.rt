@@ -1,6 +1,7 @@
 // Sections: every piece of the row list gets its mark, its section's number and its place in that section.
 // Pieces stand as blocks of three floats (y, xa, xb). Of the whole numbers the first n are the pieces' rows, and the marks
 // come after them, as blocks of two.
+// kept (6): rule: document 01 lends the slices, and there is no heap
 #![tactic(auto)]
 
 ghost use Rattle.std.specs.Prelude.{◌≡◌, ◌+◌, ◌-◌, ◌*◌, ◌≤◌, ◌<◌, length};
@@ -29,6 +30,7 @@ pub struct Mark {
 }
 
 // Where a row lies: of n pieces, the row before from b0 to r0, this one from r0 to r1.
+// kept (5): no plainer: specs/AllRows builds rows, where an invariant of theirs would have to be proved too
 #[derive(Clone, Copy)]
 pub struct Row {
     pub n: usize,

@@ -3,6 +3,7 @@
 // The pieces' part of the floats holds y, xa, xb of piece i at 3 * i. Of n pieces the part of the whole numbers holds
 // the row of piece i at i, its section and its place there at n + 2 * i, and the links that `link` writes: the next piece
 // of its section (n where there is none) at 3 * n + i, the first piece of section s at 4 * n + s.
+// kept (6): rule: document 01 lends the slices, and there is no heap
 #![tactic(auto)]
 
 mod links;

@@ -12,6 +12,7 @@ use geom::P;
 use leaves::{ceil, floor, of_i64, to_i64};
 
 // `first`, then n needle points off + m * len from m0 on, left to right or back, then `last`.
+// kept (5): no plainer: specs/Sewing builds rows, where `Near` as an invariant would have to be proved too
 #[derive(Clone, Copy)]
 pub struct Row {
     pub y: f64,

@@ -11,12 +11,6 @@ build-e-requires c = (outlined c.args.t.outline.corners.now c.args.t.outline.end
 pub overflow_mul-e : goal.overflow_mul-e
 overflow_mul-e c = omega (arith, few_edges c.args.t.outline.corners.now c.args.t.outline.ends.now c.args.t (passed c.args.t), edge_count c.args.t.outline.corners.now c.args.t.outline.ends.now c.args.t (passed c.args.t) _ c.build-e.ensures)
 
-pub returns-then-floats-e : goal.returns-then-floats-e
-returns-then-floats-e c = record { is = (refl, short_floats c.args.t.outline.corners.now c.args.t.outline.ends.now c.args.t _ _ (omega (arith, c.if-floats-e.true, edge_count c.args.t.outline.corners.now c.args.t.outline.ends.now c.args.t (passed c.args.t) _ c.build-e.ensures))) }
-
-pub returns-then-wholes-e : goal.returns-then-wholes-e
-returns-then-wholes-e c = record { is = (refl, short_wholes c.args.t.outline.corners.now c.args.t.outline.ends.now c.args.t _ _ (omega (arith, c.if-wholes-e.true, edge_count c.args.t.outline.corners.now c.args.t.outline.ends.now c.args.t (passed c.args.t) _ c.build-e.ensures))) }
-
 pub sweep-i-requires : goal.sweep-i-requires
 sweep-i-requires c = (lent c.args.t.outline.corners.now c.args.t.outline.ends.now c.args.t (passed c.args.t) _ c.build-e.ensures _ (search rules) (search rules) (search rules), lent_strict c.args.t.outline.corners.now c.args.t.outline.ends.now c.args.t (passed c.args.t) _ c.build-e.ensures (search rules))
 
