@@ -75,3 +75,12 @@ said_written_one (Ok n) (Ok m) e = ap Ok (ap (λ (x : Written). x.bytes) e)
 said_written_one (Ok n) (Err f) e = absurd (number_some f (sym (ap (λ (x : Written). x.answer) e)))
 said_written_one (Err f) (Ok n) e = absurd (number_some f (ap (λ (x : Written). x.answer) e))
 said_written_one (Err f) (Err g) e = ap Err (number_one f g (ap (λ (x : Written). x.answer) e))
+
+-- bytes written are counted as points sewn are
+pub written_count : (r : Result ℕ Refusal) → (said_written r).bytes ≡ (said_sewn r).points
+written_count (Ok n) = refl
+written_count (Err e) = refl
+
+pub written_answer : (r : Result ℕ Refusal) → (said_written r).answer ≡ (said_sewn r).answer
+written_answer (Ok n) = refl
+written_answer (Err e) = refl
