@@ -23,7 +23,7 @@ pub struct Extent {
 }
 
 // The source's k_lo and k_hi: n rows, or 4,097 where there are more than 4,096.
-// kept (5): no plainer: rows are counted before they are refused, so a type of rows that are `Spanned` would stand beside this one
+// kept (5): no plainer: `Spanned` as a ghost field would stand in the definition `rows_of` too, and each equation of rows carry its proof
 #[derive(Clone, Copy)]
 pub struct Rows {
     pub lo: i64,

@@ -70,15 +70,23 @@ fn direction(falls: bool) -> f64
     if falls { 1.0 } else { -1.0 }
 }
 
+// A block at k, if there is room.
+pub fn put_block<const N: usize>(floats: &mut [f64], k: usize, block: [f64; N])
+    requires { k + N ≤ 2000000000 }
+    ensures { Wrote floats.old floats.new k block.entry }
+{
+    if k + N <= floats.len() {
+        floats[k..k + N].copy_from_slice(&block);
+    }
+}
+
 // An edge at k, if there is room.
 // kept (6): rule: document 01 lends the slices, so edges stand in one as blocks of floats
 fn put_edge(floats: &mut [f64], k: usize, e: Edge)
     requires { k ≤ 1000000 }
     ensures { Wrote floats.old floats.new k (edge_block e) }
 {
-    if k + 5 <= floats.len() {
-        floats[k..k + 5].copy_from_slice(&[e.y0, e.y1, e.x0, e.dxdy, direction(e.falls)]);
-    }
+    put_block(floats, k, [e.y0, e.y1, e.x0, e.dxdy, direction(e.falls)]);
 }
 
 // A side's edge as edge n, if it is kept; how many there are then.

@@ -14,6 +14,7 @@ pub enum Key {
     Bottom,
 }
 
+// kept (5): no plainer: table and key are two words, and the contracts order `by` each of them
 pub fn key_of(table: &Table, key: Key, i: usize) -> f64
     ensures { result ≡ key_of key table.now i }
 {

@@ -8,6 +8,7 @@ ghost use Rattle.rules.specs.Fill.{same_x};
 ghost use Rattle.sweep.specs.Swept.{Crossed, joined_to, cut_ends, wide_span, passed, cuts, Stepped, span_block, block_place};
 
 use edges::Table;
+use edges::table::put_block;
 use leaves::to_bits;
 use outlines::FillRule;
 use std::marker::Model;
@@ -203,9 +204,7 @@ pub fn put_piece(floats: &mut [f64], k: usize, y: f64, p: Span)
     requires { k ≤ 1000000000 }
     ensures { Wrote floats.old floats.new k (span_block y p) }
 {
-    if k + 3 <= floats.len() {
-        floats[k..k + 3].copy_from_slice(&[y, p.xa, p.xb]);
-    }
+    put_block(floats, k, [y, p.xa, p.xb]);
 }
 
 // A row's pieces from piece i on, if there is room; how many there are then.
