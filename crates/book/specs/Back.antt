@@ -12,7 +12,7 @@ use Rattle.seqs.specs.Reads.{part_on}
 use Rattle.seqs.specs.Tests.{either, clash, and_both}
 use Rattle.jobs.specs.Job.{value, number}
 use Rattle.book.specs.declared.values.Values.{Values}
-use Rattle.book.specs.declared.fetching.Fetched.TheVariants.{Refused}
+use Rattle.book.specs.Fetched.{Refused}
 use Rattle.book.specs.Book.{ABSENT, number_of, size, sheets, joined, stands, good_sheet, good_sheets, ended, good_book, fetch_refusal, fetched, bytes, head_bytes, sheet_bytes, replaced, without, filled, store_bytes, store_refusal, after_store, remove_refusal, after_remove}
 use Rattle.book.specs.BookLaws.{size_short, size_small, size_past, size_whole, size_fits, number_take, sheets_end, sheets_next}
 use Rattle.book.specs.KeepLaws.{sheet_length}

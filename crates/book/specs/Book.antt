@@ -6,8 +6,8 @@ use Rattle.refusal.specs.Refusal.{DONE, LAYOUT, SETTING, ROOM, unless, ◌then�
 use Rattle.limits.specs.Limits.{good_spacing, good_len, good_inset, good_stagger}
 use Rattle.jobs.specs.Job.{number, float, byte}
 use Rattle.book.specs.declared.values.Values.{Values}
-use Rattle.book.specs.declared.fetching.Fetched.{Fetched}
-use Rattle.book.specs.declared.fetching.Fetched.TheVariants.{Sheet, Refused}
+use Rattle.book.specs.Fetched.{Fetched}
+use Rattle.book.specs.Fetched.{Sheet, Refused}
 
 abbrev pub ABSENT : ℕ
 ABSENT = 10

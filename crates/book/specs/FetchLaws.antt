@@ -3,7 +3,7 @@ use Rattle.std.specs.Prelude.{ℕ, ◌+◌, ◌≤◌, ◌<◌, ◌≡◌, true,
 use Rattle.std.proofs.Common.{arith, sym, ap, ◌∙◌, length-drop, length-take-le}
 use borrow.Author.Tests.{eq-eqb, ne_eqb}
 use Rattle.refusal.specs.Refusal.{LAYOUT, SETTING}
-use Rattle.book.specs.declared.fetching.Fetched.TheVariants.{Sheet, Refused}
+use Rattle.book.specs.Fetched.{Sheet, Refused}
 use Rattle.book.specs.Book.{ABSENT, VERSION, version_of, values_of, good_values, size, sheets, sheet_of, good_book, sheet_refusal, fetch_refusal, fetched}
 use Rattle.book.specs.BookLaws.{Placed, placed_none, placed_stands, placed_sheet, size_fits, version_of_lem, version_at, values_of_lem, good_sheet_lem, good_length}
 

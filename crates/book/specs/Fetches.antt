@@ -12,7 +12,7 @@ use Rattle.refusal.specs.Refusal.{DONE}
 use Rattle.limits.specs.Limits.{good_spacing, good_len, good_inset, good_stagger}
 use Rattle.seqs.specs.Tests.{either, and_both}
 use Rattle.book.specs.declared.values.Values.{Values}
-use Rattle.book.specs.declared.fetching.Fetched.TheVariants.{Sheet}
+use Rattle.book.specs.Fetched.{Sheet}
 use Rattle.book.specs.Book.{version_of, number_of, good_values, sheets, stands, sheet_of, good_sheet, good_sheets, good_book, sheet_refusal, fetch_refusal, fetched, bytes, head_bytes, value_bytes, bits, sheet_bytes, replaced, without, store_bytes, store_refusal, after_store, remove_refusal, after_remove}
 use Rattle.book.specs.KeepLaws.{sheet_length}
 use Rattle.book.specs.Back.{sheets_whole, stored_whole, all_replaced, filled_good, good_sheets_lem, store_back, remove_back, remove_good, after_remove_good}

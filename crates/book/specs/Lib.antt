@@ -1,4 +1,5 @@
 -- The machines' sheet book: its bytes, what each call answers and leaves, and what is proved of it.
+pub mod Fetched
 pub mod Book
 pub mod BookLaws
 pub mod FetchLaws

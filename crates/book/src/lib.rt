@@ -4,11 +4,10 @@
 mod fetching;
 mod framing;
 mod keeping;
-pub mod names;
 mod values;
 mod walk;
 mod writing;
 
-pub use fetching::{Fetched, fetch};
+pub use fetching::fetch;
 pub use keeping::{remove, store};
 pub use values::Values;
