@@ -1,5 +1,7 @@
 use mathlib.Core.Path.{◌≡◌, sym, ◌∙◌}
 use native.Mathlib.Nat.{pos_of_ne-zero}
+use Prim.Native.Nat.{◌-◌}
+use lib.ListN.{length}
 use native.Mathlib.Omega.{arith}
 use borrow.Author.Tests.{leb-true, leb-false, eqb-true, eqb-false}
 use Rattle.std.specs.Prelude.{Err}
@@ -24,7 +26,7 @@ overflow_sub-book c = let f = c.place-at.ensures.way.fits in search rules
 
 pub returns-in_err-unless-3 : goal.returns-in_err-unless-3
 returns-in_err-unless-3 c = let r : c.from_residual-in_err-unless-3.result ≡ Err Room = search rules in
-    let e = store_room c.args.number c.args.book.now (sym c.good_book.ensures ∙ c.in_ok-unless.ensures) c.place-at.result c.place-at.ensures (sym c.size_at.ensures.0 ∙ c.if-size_at-eq0.true) c.args.v (sym c.good_values.ensures ∙ c.in_ok-unless-2.ensures) (leb-false 41 _ c.in_err-unless-3.ensures.1) in rw r (record { value = sym e.0; book_after = sym e.1 })
+    let e = store_room c.args.number c.args.book.now (sym c.good_book.ensures ∙ c.in_ok-unless.ensures) c.place-at.result c.place-at.ensures (sym c.size_at.ensures.0 ∙ c.if-size_at-eq0.true) c.args.v (sym c.good_values.ensures ∙ c.in_ok-unless-2.ensures) (leb-false 41 (length c.args.book.now - c.place-at.result) c.in_err-unless-3.ensures.1) in rw r (record { value = sym e.0; book_after = sym e.1 })
 
 pub put_sheet-requires : goal.put_sheet-requires
 put_sheet-requires c = omega (arith, leb-true 41 _ c.in_ok-unless-3.ensures, c.place-at.ensures.way.fits)
