@@ -36,9 +36,6 @@ bounds-out-at-2 c = omega (arith, c.loop-i.invariant.1.len, gap_size c.args.p c.
 pub bounds-out-at-3 : goal.bounds-out-at-3
 bounds-out-at-3 c = rw length-set (omega (arith, c.loop-i.invariant.1.len, gap_size c.args.p c.args.q c.args.n c.args.c c.args.s, c.requires))
 
-pub shape_of-out : goal.shape_of-out
-shape_of-out c = simp length-set c.loop-i.invariant.1.len
-
 pub returns : goal.returns
 returns c =
     let a = c.args in
