@@ -8,3 +8,4 @@ pub mod AllRows
 pub mod Marked
 pub mod Rises
 pub mod RiseLaws
+pub mod RiseProps

@@ -38,14 +38,6 @@ only_at [] = None
 only_at (a ∷ []) = Some a
 only_at (a ∷ b ∷ l) = None
 
--- what the slices have room for
-pub record Ranges (s : Row) (l : List Float) (w : List ℕ) : Type 0 where
-  pub opens : s.b0 ≤ s.r0
-  pub row : s.r0 ≤ s.r1
-  pub all : s.r1 ≤ s.n
-  pub floats : 3 * s.n ≤ length l
-  pub marks : 3 * s.n ≤ length w
-
 -- the marks of the places from b up to r have small places in their sections
 abbrev pub Low : ℕ → ℕ → ℕ → List ℕ → ℕ → Type 0
 Low n b r w most = (t : ℕ) → b ≤ t → t < r → get_or w (n + 2 * t + 1) 0 ≤ most

@@ -10,11 +10,12 @@ ghost use Rattle.seqs.specs.Slices.{Wrote};
 ghost use Rattle.geom.specs.Rings.{rings_of};
 ghost use Rattle.rules.specs.Fill.{overlap, link_ends, link_inside, connects, begun};
 ghost use Rattle.rules.specs.Rise.{Rise};
-ghost use Rattle.sections.specs.Mark.{piece_in, entry_in, Ranges, Within, Low, joins_at, mark_at, after_at, flat_mark, row_marks, row_new, flat_marks, row_end, rows_in, marked_in};
-ghost use Rattle.sections.specs.Rises.{Rising};
+ghost use Rattle.sections.specs.Mark.{piece_in, entry_in, Within, Low, joins_at, mark_at, after_at, flat_mark, row_marks, row_new, flat_marks, row_end, rows_in, marked_in};
 
+mod pair;
 mod rise;
 
+use crate::pair::Pair;
 use crate::rise::{meets_one, only_open};
 use geom::steps::along;
 use geom::{Outline, P};
@@ -30,7 +31,6 @@ pub struct Mark {
 }
 
 // Where a row lies: of n pieces, the row before from b0 to r0, this one from r0 to r1.
-// kept (5): no plainer: specs/AllRows builds rows, where an invariant of theirs would have to be proved too
 #[derive(Clone, Copy)]
 pub struct Row {
     pub n: usize,
@@ -137,21 +137,14 @@ pub struct Fill {
 }
 
 // The open place that the piece at j joins, if there is one.
-fn joins(
-    area: Area,
-    g: Settings,
-    pieces: &[f64],
-    wholes: &[usize],
-    s: Row,
-    j: usize,
-) -> Option<usize>
-    requires { Ranges s pieces.now wholes.now × (j < s.r1) × (s.r0 ≤ j) × Rising pieces.now s.b0 s.r0 × Rising pieces.now s.r0 s.r1 }
-    ensures { (result ≡ joins_at (rings_of area.entry.outline) area.entry.rule g pieces.now wholes.now s j) × Within result s.b0 s.r0 }
+fn joins(area: Area, g: Settings, l: Pair, wholes: &[usize], j: usize) -> Option<usize>
+    requires { (3 * l.s.n ≤ length wholes.now) × (j < l.s.r1) × (l.s.r0 ≤ j) }
+    ensures { (result ≡ joins_at (rings_of area.entry.outline) area.entry.rule g l.entry.pieces.now wholes.now l.entry.s j) × Within result l.entry.s.b0 l.entry.s.r0 }
 {
-    let p = piece_at(pieces, j);
-    let t = only_open(pieces, s.b0, s.r0, p)?;
-    let o = entry_at(pieces, wholes, s.n, t);
-    if !meets_one(pieces, s.r0, s.r1, j, o.piece) {
+    let p = piece_at(l.pieces, j);
+    let t = only_open(l, p)?;
+    let o = entry_at(l.pieces, wholes, l.s.n, t);
+    if !meets_one(l, j, o.piece) {
         return None;
     }
     if connects(area, g, o, p) {
@@ -162,25 +155,17 @@ fn joins(
 
 // The mark of the piece at j, where a new section gets the number `new`.
 #[tactic(auto, unfolding(crate::specs::Mark::mark_at))]
-fn mark_at(
-    area: Area,
-    g: Settings,
-    pieces: &[f64],
-    wholes: &[usize],
-    s: Row,
-    new: usize,
-    j: usize,
-) -> Mark
-    requires { Ranges s pieces.now wholes.now × (j < s.r1) × Low s.n s.b0 s.r0 wholes.now 1000000 × (s.r0 ≤ j) × Rising pieces.now s.b0 s.r0 × Rising pieces.now s.r0 s.r1 }
-    ensures { result ≡ mark_at (rings_of area.entry.outline) area.entry.rule g pieces.now wholes.now s new j }
+fn mark_at(area: Area, g: Settings, l: Pair, wholes: &[usize], new: usize, j: usize) -> Mark
+    requires { (3 * l.s.n ≤ length wholes.now) × (j < l.s.r1) × Low l.s.n l.s.b0 l.s.r0 wholes.now 1000000 × (l.s.r0 ≤ j) }
+    ensures { result ≡ mark_at (rings_of area.entry.outline) area.entry.rule g l.entry.pieces.now wholes.now l.entry.s new j }
 {
-    match joins(area, g, pieces, wholes, s, j) {
+    match joins(area, g, l, wholes, j) {
         None => Mark {
             section: new,
             nth: 0,
         },
         Some(t) => {
-            let k = s.n + 2 * t;
+            let k = l.s.n + 2 * t;
             Mark {
                 section: wholes[k],
                 nth: wholes[k + 1] + 1,
@@ -205,21 +190,14 @@ fn put_mark(wholes: &mut [usize], k: usize, m: Mark)
 }
 
 // The marks of a row's pieces; the number of the next new section.
-fn mark_row(
-    area: Area,
-    g: Settings,
-    pieces: &[f64],
-    wholes: &mut [usize],
-    s: Row,
-    new: usize,
-) -> usize
-    requires { Ranges s pieces.now wholes.old × Low s.n s.b0 s.r0 wholes.old 1000000 × (s.n ≤ 10000000) × (new ≤ s.r0) × Rising pieces.now s.b0 s.r0 × Rising pieces.now s.r0 s.r1 }
-    ensures { Wrote wholes.old wholes.new (s.n + 2 * s.r0) (row_marks (rings_of area.entry.outline) area.entry.rule g pieces.now wholes.old s new s.r0 (s.r1 - s.r0)) × (result ≡ row_new (rings_of area.entry.outline) area.entry.rule g pieces.now wholes.old s new s.r0 (s.r1 - s.r0)) × (result ≤ s.r1) }
+fn mark_row(area: Area, g: Settings, l: Pair, wholes: &mut [usize], new: usize) -> usize
+    requires { (3 * l.s.n ≤ length wholes.old) × Low l.s.n l.s.b0 l.s.r0 wholes.old 1000000 × (l.s.n ≤ 10000000) × (new ≤ l.s.r0) }
+    ensures { Wrote wholes.old wholes.new (l.entry.s.n + 2 * l.entry.s.r0) (row_marks (rings_of area.entry.outline) area.entry.rule g l.entry.pieces.now wholes.old l.entry.s new l.entry.s.r0 (l.entry.s.r1 - l.entry.s.r0)) × (result ≡ row_new (rings_of area.entry.outline) area.entry.rule g l.entry.pieces.now wholes.old l.entry.s new l.entry.s.r0 (l.entry.s.r1 - l.entry.s.r0)) × (result ≤ l.entry.s.r1) }
 {
     let mut section = new;
-    for j in s.r0..s.r1 {
-        let m = mark_at(area, g, pieces, wholes, s, section, j);
-        put_mark(wholes, s.n + 2 * j, m);
+    for j in l.s.r0..l.s.r1 {
+        let m = mark_at(area, g, l, wholes, section, j);
+        put_mark(wholes, l.s.n + 2 * j, m);
         section = after(section, m);
     }
     section
@@ -250,8 +228,11 @@ fn mark_rows(
     let mut section = 0;
     for r in 0..rows {
         let r1 = row_end(wholes, n, r0, r);
-        let s = Row { n, b0, r0, r1 };
-        section = mark_row(area, g, pieces, wholes, s, section);
+        let l = Pair {
+            pieces,
+            s: Row { n, b0, r0, r1 },
+        };
+        section = mark_row(area, g, l, wholes, section);
         b0 = r0;
         r0 = r1;
     }

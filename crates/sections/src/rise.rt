@@ -5,6 +5,7 @@ ghost use Rattle.sections.specs.Mark.{hits, over, under, count_of, only_at, With
 ghost use Rattle.sections.specs.Rises.{Rising};
 ghost use Rattle.sections.specs.RiseLaws.{Between};
 
+use crate::pair::Pair;
 use crate::{overlap, piece_at};
 use rules::Piece;
 
@@ -18,11 +19,12 @@ fn first_past(pieces: &[f64], from: usize, to: usize, x: f64) -> usize
 }
 
 // The only place from b0 on, before r0, whose piece p overlaps.
-pub fn only_open(pieces: &[f64], b0: usize, r0: usize, p: Piece) -> Option<usize>
-    requires { Rising pieces.now b0 r0 × (b0 ≤ r0) × (3 * r0 ≤ length pieces.now) }
-    ensures { (result ≡ only_at (hits (over pieces.now p) b0 r0)) × Within result b0 r0 }
+pub fn only_open(l: Pair, p: Piece) -> Option<usize>
+    ensures { (result ≡ only_at (hits (over l.entry.pieces.now p) l.entry.s.b0 l.entry.s.r0)) × Within result l.entry.s.b0 l.entry.s.r0 }
 {
-    let t = first_past(pieces, b0, r0, p.xa);
+    let pieces = l.pieces;
+    let r0 = l.s.r0;
+    let t = first_past(pieces, l.s.b0, r0, p.xa);
     if t >= r0 {
         return None;
     }
@@ -39,11 +41,11 @@ pub fn only_open(pieces: &[f64], b0: usize, r0: usize, p: Piece) -> Option<usize
 }
 
 // Whether o, which overlaps the piece at j, overlaps no other from r0 on, before r1.
-pub fn meets_one(pieces: &[f64], r0: usize, r1: usize, j: usize, o: Piece) -> bool
-    requires { Rising pieces.now r0 r1 × (r0 ≤ j) × (j < r1) × (3 * r1 ≤ length pieces.now) × (under pieces.now o j ≡ true) }
-    ensures { result ≡ eqb (count_of (under pieces.now o) r0 r1) 1 }
+pub fn meets_one(l: Pair, j: usize, o: Piece) -> bool
+    requires { (l.s.r0 ≤ j) × (j < l.s.r1) × (under l.pieces.now o j ≡ true) }
+    ensures { result ≡ eqb (count_of (under l.entry.pieces.now o) l.entry.s.r0 l.entry.s.r1) 1 }
 {
-    let before = r0 < j && overlap(o, piece_at(pieces, j - 1));
-    let behind = j + 1 < r1 && overlap(o, piece_at(pieces, j + 1));
+    let before = l.s.r0 < j && overlap(o, piece_at(l.pieces, j - 1));
+    let behind = j + 1 < l.s.r1 && overlap(o, piece_at(l.pieces, j + 1));
     !before && !behind
 }

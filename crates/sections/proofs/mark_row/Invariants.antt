@@ -19,4 +19,4 @@ pub record Inv (rs : List (List P)) (rule : FillRule) (g : Settings) (l : List F
   pub news : row_new rs rule g l w s section j (s.r1 - j) ≡ row_new rs rule g l w s new s.r0 (s.r1 - s.r0)
 
 abbrev pub invariant-loop-j : goal.invariant-loop-j
-invariant-loop-j l = Inv (rings_of l.area.outline) l.area.rule l.g l.pieces l.s l.new l.initial.wholes l.wholes l.j l.section
+invariant-loop-j l = Inv (rings_of l.area.outline) l.area.rule l.g l.l.pieces.now l.l.s l.new l.initial.wholes l.wholes l.j l.section

@@ -10,18 +10,25 @@ loop-r-init c = let a = c.args in marking_start (rings_of a.area.outline) a.area
 pub row_end-r1-requires : goal.row_end-r1-requires
 row_end-r1-requires c = (c.loop-r.invariant.within, omega (arith, c.loop-r.invariant.run.size, c.requires.1))
 
+pub invariant_of-l : goal.invariant_of-l
+invariant_of-l c =
+    let a = c.args in
+    let v = c.loop-r.invariant in
+    let e = c.row_end-r1.ensures in
+    record {
+      opens = v.opens;
+      row = e.1;
+      all = e.2;
+      floats = c.requires.0;
+      before = v.last;
+      here = marking_rises (rings_of a.area.outline) a.area.rule a.g a.pieces.now a.wholes.now a.n a.rows v c.loop-r-test.true e.0;
+    }
+
 pub mark_row-section-requires : goal.mark_row-section-requires
 mark_row-section-requires c =
     let a = c.args in
     let v = c.loop-r.invariant in
-    let e = c.row_end-r1.ensures in (
-      record { opens = v.opens; row = e.1; all = e.2; floats = c.requires.0; marks = omega (arith, v.run.size, c.requires.1) },
-      marking_low (rings_of a.area.outline) a.area.rule a.g a.pieces.now a.wholes.now a.n a.rows v c.requires.3,
-      c.requires.2,
-      v.most,
-      v.last,
-      marking_rises (rings_of a.area.outline) a.area.rule a.g a.pieces.now a.wholes.now a.n a.rows v c.loop-r-test.true e.0,
-    )
+    (omega (arith, v.run.size, c.requires.1), marking_low (rings_of a.area.outline) a.area.rule a.g a.pieces.now a.wholes.now a.n a.rows v c.requires.3, c.requires.2, v.most)
 
 pub loop-r-preserved : goal.loop-r-preserved
 loop-r-preserved c =
