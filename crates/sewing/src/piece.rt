@@ -1,8 +1,8 @@
 // A piece read from the working slices, as the row that is sewn.
 ghost use Rattle.std.specs.Prelude.{◌≡◌, ◌+◌, ◌*◌, ◌<◌, ◌≤◌, length};
-ghost use Rattle.sewing.specs.Sewing.{entry_at, start_of, row_of, Near, phase_of, Linked};
+ghost use Rattle.sewing.specs.Sewing.{entry_at, start_of, row_of, phase_of, Linked};
 
-use crate::row::{Row, row_of};
+use crate::row::{Line, row_of};
 use crate::thread::Thread;
 use geom::P;
 use leaves::of_u64;
@@ -45,9 +45,9 @@ impl<'a> Pieces<'a> {
     }
 
     // Piece j's row.
-    pub fn row(self, j: usize) -> Row
+    pub fn row(self, j: usize) -> Line
         requires { j < self.thread.now.field.pieces }
-        ensures { (result ≡ row_of self.entry.thread.now.field.g self.entry.thread.now.field.stagger (entry_at self.entry.thread.now.field self.entry.floats.now self.entry.wholes.now j)) × Near result }
+        ensures { result.row ≡ row_of self.entry.thread.now.field.g self.entry.thread.now.field.stagger (entry_at self.entry.thread.now.field self.entry.floats.now self.entry.wholes.now j) }
     {
         let t = self.thread;
         let len = t.field.g.len;

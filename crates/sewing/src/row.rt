@@ -12,7 +12,6 @@ use geom::P;
 use leaves::{ceil, floor, of_i64, to_i64};
 
 // `first`, then n needle points off + m * len from m0 on, left to right or back, then `last`.
-// kept (5): no plainer: specs/Sewing builds rows, where `Near` as an invariant would have to be proved too
 #[derive(Clone, Copy)]
 pub struct Row {
     pub y: f64,
@@ -22,6 +21,13 @@ pub struct Row {
     pub m0: i64,
     pub n: u64,
     pub forward: bool,
+}
+
+// A row of which each needle point's number is one of the machine's.
+#[derive(Clone, Copy)]
+pub struct Line {
+    pub row: Row,
+    pub ghost near: { Near row },
 }
 
 // The never-negative remainder of a row number.
@@ -43,21 +49,23 @@ fn reach(lo: i64, hi: i64) -> u64
 }
 
 // The row of a piece whose stagger is `off`.
-pub fn row_of(len: f64, margin: f64, off: f64, y: f64, xa: f64, xb: f64, forward: bool) -> Row
-    ensures { (result ≡ row_by len margin off y xa xb forward) × Near result }
+pub fn row_of(len: f64, margin: f64, off: f64, y: f64, xa: f64, xb: f64, forward: bool) -> Line
+    ensures { result.row ≡ row_by len margin off y xa xb forward }
 {
     let m0 = to_i64(ceil((xa + margin - off) / len));
     let m1 = to_i64(floor((xb - margin - off) / len));
     let n = reach(m0, m1);
     let (first, last) = if forward { (xa, xb) } else { (xb, xa) };
-    Row {
-        y,
-        first,
-        last,
-        off,
-        m0,
-        n,
-        forward,
+    Line {
+        row: Row {
+            y,
+            first,
+            last,
+            off,
+            m0,
+            n,
+            forward,
+        },
     }
 }
 
@@ -70,10 +78,11 @@ fn needle_at(m0: i64, i: u64, off: f64, len: f64) -> f64
 }
 
 // Target r of n + 2, in the order sewn.
-pub fn target_at(w: Row, len: f64, r: u64) -> P
-    requires { Near w × (w.n < 2 ^ 63) }
-    ensures { result ≡ point (target len w r) w.y }
+pub fn target_at(l: Line, len: f64, r: u64) -> P
+    requires { l.row.n < 2 ^ 63 }
+    ensures { result ≡ point (target len l.row r) l.row.y }
 {
+    let w = l.row;
     let x = if r == 0 {
         w.first
     } else if r > w.n {

@@ -29,7 +29,10 @@ fn count_section(l: Pieces, s: usize, c0: u64, cap: u64) -> Option<u64>
     while j < n {
         let w = l.row(j);
         c = count_row(t, w, pen, c, cap)?;
-        pen = P { x: w.last, y: w.y };
+        pen = P {
+            x: w.row.last,
+            y: w.row.y,
+        };
         j = l.wholes[3 * n + j];
     }
     Some(c)
@@ -52,7 +55,10 @@ fn put_section(out: &mut [f64], k: usize, l: Pieces, s: usize) -> usize
     while j < n {
         let w = l.row(j);
         at = put_row(out, at, t, w, pen);
-        pen = P { x: w.last, y: w.y };
+        pen = P {
+            x: w.row.last,
+            y: w.row.y,
+        };
         j = l.wholes[3 * n + j];
     }
     at

@@ -4,9 +4,9 @@ ghost use Rattle.seqs.specs.Slices.{Put};
 ghost use Rattle.std.specs.Option.{ForSome};
 ghost use Rattle.geom.specs.Sewing.{flat};
 ghost use Rattle.sewing.specs.Within.{within};
-ghost use Rattle.sewing.specs.Sewing.{cuts_at, cuts_for, cuts, OwnRoot, Decides, gap, sew_to, back, Near, targets, row_sewn};
+ghost use Rattle.sewing.specs.Sewing.{cuts_at, cuts_for, cuts, OwnRoot, Decides, gap, sew_to, back, targets, row_sewn};
 
-use crate::row::{Row, target_at};
+use crate::row::{Line, target_at};
 use crate::thread::Thread;
 use geom::P;
 use leaves::quick::root;
@@ -96,18 +96,18 @@ fn put_gap(out: &mut [f64], k: usize, p: P, q: P, n: u64, c: f64, s: f64) -> usi
 }
 
 // How many points a row has, sewn from the pen, after c0 others, unless they pass the cap.
-pub fn count_row(t: &Thread, w: Row, pen: P, c0: u64, cap: u64) -> Option<u64>
-    requires { Near w × (c0 ≤ cap) × (cap < 2 ^ 63) }
-    ensures { result ≡ within cap (c0 + length (sew_to t.now.field.g.len pen (targets t.now.field.g.len w 0 (w.n + 2)))) }
+pub fn count_row(t: &Thread, l: Line, pen: P, c0: u64, cap: u64) -> Option<u64>
+    requires { (c0 ≤ cap) × (cap < 2 ^ 63) }
+    ensures { result ≡ within cap (c0 + length (sew_to t.now.field.g.len pen (targets t.now.field.g.len l.row 0 (l.row.n + 2)))) }
 {
-    if cap < w.n {
+    if cap < l.row.n {
         return None;
     }
-    let end = w.n + 2;
+    let end = l.row.n + 2;
     let mut from = pen;
     let mut c = c0;
     for r in 0..end {
-        let to = target_at(w, t.field.g.len, r);
+        let to = target_at(l, t.field.g.len, r);
         let n = cuts_to(from, to, t);
         if cap - c <= n {
             return None;
@@ -119,16 +119,16 @@ pub fn count_row(t: &Thread, w: Row, pen: P, c0: u64, cap: u64) -> Option<u64>
 }
 
 // A row's points, sewn from the pen and turned back, from k on.
-pub fn put_row(out: &mut [f64], k: usize, t: &Thread, w: Row, pen: P) -> usize
-    requires { Near w × (k + length (flat (row_sewn t.now.field.g pen w)) ≤ length out.old) }
-    ensures { Put out.old out.new k (flat (row_sewn t.now.field.g pen w)) × (result ≡ k + length (flat (row_sewn t.now.field.g pen w))) }
+pub fn put_row(out: &mut [f64], k: usize, t: &Thread, l: Line, pen: P) -> usize
+    requires { (k + length (flat (row_sewn t.now.field.g pen l.row)) ≤ length out.old) }
+    ensures { Put out.old out.new k (flat (row_sewn t.now.field.g pen l.row)) × (result ≡ k + length (flat (row_sewn t.now.field.g pen l.row))) }
 {
     let g = t.field.g;
-    let end = w.n + 2;
+    let end = l.row.n + 2;
     let mut from = pen;
     let mut at = k;
     for r in 0..end {
-        let to = target_at(w, g.len, r);
+        let to = target_at(l, g.len, r);
         let n = cuts_to(from, to, t);
         at = put_gap(out, at, from, to, n, g.cosine, g.sine);
         from = to;

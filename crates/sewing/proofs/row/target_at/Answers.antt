@@ -17,8 +17,8 @@ returns-then-r-w c = rw (ne_eqb _ _ c.if-r-eq0.false, lt-ltb _ _ c.if-r-w.true)
 pub returns-after-w : goal.returns-after-w
 unfolding target
 returns-after-w c =
-    let w = c.args.w in
-    let z = read w.m0 (first_fits w (omega arith) c.requires.0) in
+    let w = c.args.l.row in
+    let z = read w.m0 (first_fits w (omega arith) c.args.l.near) in
     let e = ap (λ x. point x w.y) (rw z at c.needle_at.ensures) in
     rw (ne_eqb _ _ c.if-r-eq0.false, le-ltb _ _ c.if-r-w.false) (elim c.if-w.branch [
       | then-w v ↦ rw (v.if-w.true, ← v.i-is) e

@@ -36,7 +36,7 @@ loop-j-init c =
     (c.requires.1, o.0, refl, o.1, ap (λ l. a.c0 + length l) (start_sewn f fl wh a.s k0 c.start-pen.result (λ h. c.start-pen.ensures)))
 
 pub count_row-requires : goal.count_row-requires
-count_row-requires c = (c.row-w.ensures.1, c.loop-j.invariant.0, c.requires.2)
+count_row-requires c = (c.loop-j.invariant.0, c.requires.2)
 
 pub returns-in_err-c : goal.returns-in_err-c
 returns-in_err-c c =
@@ -47,7 +47,7 @@ returns-in_err-c c =
     let k0 = linked_less f a.l.sections (a.s + 1) fl wh (omega arith) a.l.linked in
     let l = c.loop-j in
     rw c.from_residual.ensures (within_over a.cap (a.c0 + length (sewn f.g f.stagger (section (entries_in f fl wh) a.s)))
-    (omega (arith, l.invariant.4, count_past f fl wh a.s k0 l.j c.loop-j-test.true (l.invariant.3 c.loop-j-test.true) l.pen c.row-w.result c.row-w.ensures.0 l.c a.cap c.requires.2 c.count_row.ensures c.in_err-c.was)))
+    (omega (arith, l.invariant.4, count_past f fl wh a.s k0 l.j c.loop-j-test.true (l.invariant.3 c.loop-j-test.true) l.pen c.row-w.result.row c.row-w.ensures l.c a.cap c.requires.2 c.count_row.ensures c.in_err-c.was)))
 
 pub loop-j-smaller : goal.loop-j-smaller
 loop-j-smaller c =
@@ -69,7 +69,7 @@ loop-j-preserved c =
     let l = c.loop-j in
     let h = c.loop-j-test.true in
     let q = l.invariant.3 h in
-    let n = count_on f fl wh a.s k0 l.j h q l.pen c.row-w.result c.row-w.ensures.0 l.c a.cap c.requires.2 c.count_row.ensures _ c.in_ok-c.was in (
+    let n = count_on f fl wh a.s k0 l.j h q l.pen c.row-w.result.row c.row-w.ensures l.c a.cap c.requires.2 c.count_row.ensures _ c.in_ok-c.was in (
       n.1,
       step_high f fl wh a.s k0 l.j h q,
       refl,

@@ -46,13 +46,13 @@ put_row-at-requires c =
     let k0 = linked_less f a.l.sections (a.s + 1) fl wh (omega arith) a.l.linked in
     let l = c.loop-j in
     let h = c.loop-j-test.true in
-    let w = c.row-w.result in
+    let w = c.row-w.result.row in
     let all = flat (sewn f.g f.stagger (section (entries_in f fl wh) a.s)) in
     let b : length (take a.k a.out.now ++ all) ≤ length a.out.now = omega (arith, head_length a.out.now all a.k (omega (arith, c.requires.1)), c.requires.1) in
-    let e = put_on f fl wh a.s k0 l.j h (l.invariant.2 h) l.pen w c.row-w.ensures.0 (omega (arith, b, front_count l.invariant.3, l.invariant.1.1)) in
+    let e = put_on f fl wh a.s k0 l.j h (l.invariant.2 h) l.pen w c.row-w.ensures (omega (arith, b, front_count l.invariant.3, l.invariant.1.1)) in
     let m = flat (back f.g.cosine f.g.sine (sew_to f.g.len l.pen (targets f.g.len w 0 (w.n + 2)))) in
     let rest = flat (rest_sewn f fl wh a.s (point w.last w.y) (get_or wh (3 * f.pieces + l.j) 0)) in
-    (c.row-w.ensures.1, front_room_block m rest (front_at e l.invariant.3) b)
+    (front_room_block m rest (front_at e l.invariant.3) b)
 
 pub loop-j-smaller : goal.loop-j-smaller
 loop-j-smaller c =
@@ -74,10 +74,10 @@ loop-j-preserved c =
     let l = c.loop-j in
     let h = c.loop-j-test.true in
     let q = l.invariant.2 h in
-    let w = c.row-w.result in
+    let w = c.row-w.result.row in
     let all = flat (sewn f.g f.stagger (section (entries_in f fl wh) a.s)) in
     let b : length (take a.k a.out.now ++ all) ≤ length a.out.now = omega (arith, head_length a.out.now all a.k (omega (arith, c.requires.1)), c.requires.1) in
-    let e = put_on f fl wh a.s k0 l.j h q l.pen w c.row-w.ensures.0 (omega (arith, b, front_count l.invariant.3, l.invariant.1.1)) in
+    let e = put_on f fl wh a.s k0 l.j h q l.pen w c.row-w.ensures (omega (arith, b, front_count l.invariant.3, l.invariant.1.1)) in
     let m = flat (back f.g.cosine f.g.sine (sew_to f.g.len l.pen (targets f.g.len w 0 (w.n + 2)))) in
     let rest = flat (rest_sewn f fl wh a.s (point w.last w.y) (get_or wh (3 * f.pieces + l.j) 0)) in
     let d = front_at e l.invariant.3 in (

@@ -9,4 +9,4 @@ returns c =
     let t = c.args.self.thread.now in
     let u = offset_is t _ _ c.phase-p.ensures in
     let v = rw (← c.of_u64.ensures, ← c.of_u64-2.ensures) at u in
-    (rw (t.margin_is, v) at c.row_of.ensures.0, c.row_of.ensures.1)
+    rw (t.margin_is, v) at c.row_of.ensures
