@@ -5,6 +5,7 @@ ghost use Rattle.book.specs.Book.{sheets, stands as Book·stands, good_sheet, en
 use crate::walk::{place, size_at};
 use jobs::number::number_at;
 
+// kept (6): no plainer: places are told of the whole book, as in walk
 // The version, and the length of a version 1 sheet.
 fn good_sheet(s: &[u8], at: usize, n: usize) -> bool
     requires { (5 ≤ n) × (at + n ≤ length s.now) }
@@ -41,6 +42,7 @@ pub fn good_book(s: &[u8]) -> bool
 {
     let mut at = 0;
     let mut n = size_at(s, 0);
+    // kept (3): no plainer: a sheet's length says where the next one begins, and the place is what is asked for, which an iterator would have beside it
     while n > 0 {
         if !good_sheet(s, at, n) {
             return false;

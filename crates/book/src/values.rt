@@ -14,6 +14,7 @@ pub struct Values {
     pub stagger: u64,
 }
 
+// kept (6): no plainer: places are told of the whole book, as in walk
 // Those of the version 1 sheet at a place.
 pub fn values_at(s: &[u8], at: usize) -> Values
     requires { at + 41 ≤ length s.now }

@@ -5,6 +5,7 @@ ghost use Rattle.book.specs.BookLaws.{Placed};
 
 use jobs::number::number_at;
 
+// kept (6): no plainer: places are told of the whole book, as the ends and the moves of its sheets are
 // The bytes of the whole sheet at a place, or 0.
 pub fn size_at(s: &[u8], at: usize) -> usize
     requires { at ≤ length s.now }
@@ -30,6 +31,7 @@ pub fn place(s: &[u8], number: u16) -> usize
     let sought = u64::from(number);
     let mut at = 0;
     let mut n = size_at(s, 0);
+    // kept (3): no plainer: a sheet's length says where the next one begins, and the place is what is asked for, which an iterator would have beside it
     while n > 0 {
         if number_at(s, at + 3, 2) == sought {
             return at;
@@ -46,6 +48,7 @@ pub fn book_end(s: &[u8]) -> usize
 {
     let mut at = 0;
     let mut n = size_at(s, 0);
+    // kept (3): no plainer: a sheet's length says where the next one begins, and the place is what is asked for, which an iterator would have beside it
     while n > 0 {
         at += n;
         n = size_at(s, at);

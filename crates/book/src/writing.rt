@@ -6,6 +6,8 @@ ghost use Rattle.book.specs.Book.{bytes, head_bytes, value_bytes, sheet_bytes};
 use crate::values::Values;
 use leaves::to_bits;
 
+// kept (6): no plainer: `Put` tells what is put of the whole list, and here every put is at a place of it
+// kept (2): no plainer: jobs' put_digits has glyphs for its digits, so one function of both would take the digit as a closure with its law
 // The last k bytes of a number from a place on, found from the back.
 fn put_number(v: u64, k: usize, out: &mut [u8], at: usize)
     requires { at + k ≤ length out.old }

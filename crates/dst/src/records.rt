@@ -52,6 +52,7 @@ fn third(k: Kind, x: u64, y: u64) -> u8
     (a + b + kind_bits(k)) as u8
 }
 
+// kept (6): no plainer: records go on at the place where the one before them ends
 // The record from `at` on.
 pub fn put_record(out: &mut [u8], at: usize, k: Kind, x: u64, y: u64)
     requires { at + 3 ≤ length out.old }

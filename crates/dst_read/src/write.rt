@@ -20,6 +20,7 @@ fn back(x: u64) -> f64
     of_u64(x - LIFT)
 }
 
+// kept (6): rule: request [5] lends the points and the marks as two slices
 // The points of the first n records to the front of both slices.
 pub fn write(bytes: &[u8], n: usize, points: &mut [f64], marks: &mut [u64])
     requires { Roomy n (length bytes.now) (length points.old) (length marks.old) }

@@ -168,6 +168,7 @@ fn read_full<R: Read>(input: &mut R, bytes: &mut [u8]) -> io::Result<usize>
     ensures { IfOk result (λ n. n ≤ length bytes.new) }
 {
     let mut n = 0;
+    // kept (3): no plainer: how far a turn goes is what the read gives
     while n < bytes.len() {
         let k = input.read(&mut bytes[n..])?;
         if k == 0 {

@@ -27,6 +27,7 @@ fn places(n: u64) -> usize
     20
 }
 
+// kept (6): no plainer: `Put` tells what is put of the whole list, and each line goes on at the place where the one before it ends
 // The last k digits of n from a place on, found from the back.
 fn put_digits(n: u64, base: u64, k: usize, out: &mut [u8], at: usize)
     requires { (1 < base) × (base ≤ 16) × (at + k ≤ length out.old) }

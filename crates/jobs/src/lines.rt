@@ -5,6 +5,7 @@ ghost use Rattle.jobs.specs.Text.{point_lines, section_lines, listing as Text·l
 
 use crate::line::{put_head, put_point};
 
+// kept (6): no plainer: each line goes on at the place where the one before it ends, as in line
 // The lines of a section's points, from one place to another.
 fn put_points(
     section: u64,

@@ -2,6 +2,7 @@
 ghost use Rattle.std.specs.Prelude.{◌≡◌, ◌+◌, ◌*◌, ◌^◌, ◌≤◌, ◌<◌, length, drop};
 ghost use Rattle.jobs.specs.Job.{number, float, count};
 
+// kept (6): no plainer: the framing of a job is told by places from its front (60, 97, 8, 28), and the definition `number at n s` takes them so
 // The number in the n bytes at a place.
 pub fn number_at(s: &[u8], at: usize, n: usize) -> u64
     requires { (at + n ≤ length s.now) × (n ≤ 8) }

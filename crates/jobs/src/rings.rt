@@ -21,6 +21,7 @@ pub fn write_ends(s: &[u8], rings: usize, ends: &mut [usize])
     }
 }
 
+// kept (6): no plainer: a place in the job's bytes, as in number
 // The n floats at a place.
 fn write_floats(s: &[u8], at: usize, n: usize, out: &mut [f64])
     requires { (at + 8 * n ≤ length s.now) × (n ≤ length out.old) }

@@ -11,6 +11,7 @@ use geom::sewing::corner;
 use leaves::{is_finite, to_bits};
 use limits::good_point;
 
+// kept (1): C: a mark is the number that `reasons` hands out, and request [11] numbers them so
 pub const KEPT: usize = 0;
 
 pub const NOT_FINITE: usize = 1;
@@ -23,6 +24,7 @@ pub const CLOSING: usize = 4;
 
 pub const FEW: usize = 5;
 
+// kept (4): no plainer: P's own equality would be the floats', by which -0 is +0
 // Equal in bits: -0 and +0 are not.
 #[tactic(auto, unfolding(crate::specs::Ring::same))]
 fn same(p: P, q: P) -> bool

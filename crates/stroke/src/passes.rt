@@ -17,6 +17,7 @@ fn place(r: usize, n: usize, back: bool) -> usize
     r
 }
 
+// kept (6): rule: document 01 lends one slice, and a pass is read from its front and put behind it
 // One more pass over the n points at the front of out, from k on; answers the place after it.
 fn put_pass(out: &mut [f64], k: usize, n: usize, back: bool) -> usize
     requires { (2 * n ≤ k) × (k + 2 * (n - 1) ≤ length out.old) }
