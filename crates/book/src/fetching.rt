@@ -14,7 +14,7 @@ pub fn fetch(book: &[u8], number: u16) -> Result<Values, Refusal>
 {
     unless(Refusal::Layout, good_book(book))?;
     let at = place(book, number);
-    unless(Refusal::Absent, size_at(book, at) > 0)?;
+    unless(Refusal::Absent, size_at(book, at).is_some())?;
     unless(Refusal::Version, book[at + 2] == 1)?;
     let v = values_at(book, at);
     unless(Refusal::Setting, good_values(v))?;

@@ -22,7 +22,7 @@ fn stands(s: &[u8], number: u16) -> bool
     ensures { result ≡ Book·stands number (sheets s.now) }
 {
     let at = place(s, number);
-    size_at(s, at) > 0
+    size_at(s, at).is_some()
 }
 
 // The book ends at a place.
@@ -41,9 +41,8 @@ pub fn good_book(s: &[u8]) -> bool
     ensures { result ≡ good_book s.now }
 {
     let mut at = 0;
-    let mut n = size_at(s, 0);
-    // kept (3): no plainer: a sheet's length says where the next one begins, and the place is what is asked for, which an iterator would have beside it
-    while n > 0 {
+    // kept (3): no plainer: a sheet's length says where the next one begins, and what is behind it is looked through
+    while let Some(n) = size_at(s, at) {
         if !good_sheet(s, at, n) {
             return false;
         }
@@ -52,7 +51,6 @@ pub fn good_book(s: &[u8]) -> bool
         if stands(&s[at..], number) {
             return false;
         }
-        n = size_at(s, at);
     }
     ends_at(s, at)
 }

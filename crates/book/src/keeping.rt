@@ -17,7 +17,7 @@ pub fn store(book: &mut [u8], number: u16, v: Values) -> Result<(), Refusal>
     unless(Refusal::Layout, good_book(book))?;
     unless(Refusal::Setting, good_values(v))?;
     let at = place(book, number);
-    if size_at(book, at) == 0 {
+    if size_at(book, at).is_none() {
         unless(Refusal::Room, 41 <= book.len() - at)?;
         put_sheet(number, v, book, at);
         zero_from(book, at + 41);
@@ -37,8 +37,9 @@ pub fn remove(book: &mut [u8], number: u16) -> Result<(), Refusal>
 {
     unless(Refusal::Layout, good_book(book))?;
     let at = place(book, number);
-    let n = size_at(book, at);
-    unless(Refusal::Absent, n > 0)?;
+    let Some(n) = size_at(book, at) else {
+        return Err(Refusal::Absent);
+    };
     unless(Refusal::Version, book[at + 2] == 1)?;
     let end = book_end(book);
     move_down(book, at, at + n, end);
