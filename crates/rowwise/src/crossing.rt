@@ -20,6 +20,17 @@ pub struct Ask {
     pub at: usize,
 }
 
+// No crossing so far, and `at` sides passed.
+fn none_yet(at: usize) -> Crossing
+    ensures { result ≡ none_yet at }
+{
+    Crossing {
+        x: f64::INFINITY,
+        dir: 0,
+        next: at,
+    }
+}
+
 // A side crosses at x: it is the nearest, or one with the nearest, or farther off, or passed already.
 fn near(q: Ask, x: f64, falls: bool, m: Crossing) -> Crossing
     requires { Held q m }
@@ -68,15 +79,12 @@ fn passes(a: P, b: P, y: f64) -> bool
 }
 
 // The sides of all rings: the next crossing, or none where it passes no side.
+#[tactic(auto, using(edges::specs::SidesLaws::edges_kept))]
 pub fn next_crossing(o: Outline, g: Settings, q: Ask) -> Crossing
     requires { (length o.corners.now ≤ 2048) × (q.at ≤ 5000) }
     ensures { Gone q (none_yet q.at) (edges g (rings_of o.entry)) (length o.entry.corners.now) result }
 {
-    let mut m = Crossing {
-        x: f64::INFINITY,
-        dir: 0,
-        next: q.at,
-    };
+    let mut m = none_yet(q.at);
     for (a, b) in Sides::of(o, g) {
         if passes(a, b, q.y) {
             m = meet(q, kept_side(a, b), m);

@@ -1,18 +1,11 @@
 use Rattle.std.proofs.Common.{arith, sym, ◌∙◌, length-append}
-use Rattle.std.specs.Float.Ieee.{of_bits}
 use Rattle.seqs.specs.Lists.{each}
 use Rattle.seqs.specs.Each.{fold_append}
-use Rattle.geom.specs.Rings.{rings_of}
 use Rattle.rules.specs.Fill.{kept_side}
 use Rattle.edges.specs.EdgeCount.{outline_few}
-use Rattle.edges.specs.SidesLaws.{edges_kept}
 use Rattle.rowwise.specs.Nearest.{meet}
 use Rattle.rowwise.specs.NearestLaws.{passed_over}
 use Rattle.rowwise.proofs.crossing.next_crossing.Goals as goal
-
-pub loop-a-init : goal.loop-a-init
-unfolding of_bits
-loop-a-init c = (tt, tt, omega arith, rw (c.into_iter-a-iterator.ensures.into_iter_gives, c.of-a-items.ensures, edges_kept c.args.g (rings_of c.args.o)) (omega arith), rw (c.into_iter-a-iterator.ensures.into_iter_gives, c.of-a-items.ensures, edges_kept c.args.g (rings_of c.args.o)))
 
 pub meet-m-requires : goal.meet-m-requires
 meet-m-requires c = let o = c.args.o in record { small = c.loop-a.invariant.2; few = omega (arith, c.loop-a.invariant.3, outline_few c.args.g o.corners.now o.ends.now o.laid, c.requires.0, c.requires.1) }
