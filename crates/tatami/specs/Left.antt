@@ -1,5 +1,5 @@
 -- All that a call of a fill leaves behind: what it says, its outputs and its working slices, by document 01's number. Definitions only.
-use Rattle.std.specs.Prelude.{ℕ, Bool, List, ℤ, length, Float}
+use Rattle.std.specs.Prelude.{ℕ, Bool, List, ℤ, length, Float, Result, Ok, Err}
 use Rattle.numbers.specs.Num.{zero64}
 use Rattle.geom.specs.declared.point.P.{P}
 use Rattle.outlines.specs.declared.rule.FillRule.{FillRule}
@@ -9,11 +9,22 @@ use Rattle.rules.specs.declared.Settings.{Settings}
 use Rattle.rules.specs.declared.Entry.{Entry}
 use Rattle.rules.specs.Fill.{row_list, tatami}
 use Rattle.rules.specs.Calls.{counted, worked, sewn_points, sewn_ends, tatami_answer, listed_floats, listed_rows, listed_sections, row_list_answer}
-use Rattle.tatami.specs.declared.Filled.{Filled}
-use Rattle.tatami.specs.declared.Listed.{Listed}
+use Rattle.refusal.specs.declared.Refusal.{Refusal}
+use Rattle.refusal.specs.Refusal.{DONE, number}
+use Rattle.tatami.specs.declared.Filled.{Filled as Sewn}
 use Rattle.refusal.specs.Sewn.{output}
 
 -- ---- tatami
+
+-- what `tatami` says: document 01's number, how many sections and how many points; no section and no point after a refusal
+pub record Filled : Type 0 where
+  pub answer : ℕ
+  pub sections : ℕ
+  pub points : ℕ
+
+abbrev pub said_filled : Result Sewn Refusal → Filled
+said_filled (Ok s) = record { answer = DONE; sections = s.sections; points = s.points }
+said_filled (Err e) = record { answer = number e; sections = 0; points = 0 }
 
 -- what it says, by its number n, of the sections ss
 abbrev pub filled : ℕ → List (List P) → Filled
@@ -38,6 +49,15 @@ tatami_left corners ends rule g stagger bottomUp points sectionEnds floats whole
     left_by (tatami_answer corners ends rule g stagger bottomUp (length floats) (length wholes) (length points) (length sectionEnds)) (tatami (rings corners ends) rule g stagger bottomUp) points sectionEnds floats wholes
 
 -- ---- the row list
+
+-- what the row list says: the number, and how many pieces; none after a refusal
+pub record Listed : Type 0 where
+  pub answer : ℕ
+  pub pieces : ℕ
+
+abbrev pub said_listed : Result ℕ Refusal → Listed
+said_listed (Ok n) = record { answer = DONE; pieces = n }
+said_listed (Err e) = record { answer = number e; pieces = 0 }
 
 abbrev pub listed : ℕ → List Entry → Listed
 listed n es = record { answer = n; pieces = counted n (length es) }

@@ -1,8 +1,8 @@
 -- What the gate and the stages found is all that a call leaves. Assumes nothing.
-use Rattle.std.specs.Prelude.{ℕ, zero, suc, ◌≤◌, ◌≡◌, Bool, List, ◌++◌, ℤ, length, drop, replicate, Float}
+use Rattle.std.specs.Prelude.{ℕ, zero, suc, ◌≤◌, ◌≡◌, Bool, List, ◌++◌, ℤ, length, drop, replicate, Float, Result, Err}
 use Rattle.std.proofs.Common.{arith, ◌∙◌}
-use Rattle.std.proofs.Math.Path.{sym, ap, subst}
-use Rattle.refusal.specs.Refusal.{DONE}
+use Rattle.std.proofs.Math.Path.{sym, ap}
+use Rattle.refusal.specs.Refusal.{DONE, number}
 use Rattle.refusal.specs.Sewn.{output}
 use Rattle.numbers.specs.Num.{zero64}
 use Rattle.outlines.specs.declared.rule.FillRule.{FillRule}
@@ -15,13 +15,10 @@ use Rattle.geom.specs.Sewing.{flat}
 use Rattle.rules.specs.Calls.{worked, sewn_points, sewn_ends, sewn_fits, tatami_answer, listed_floats, listed_rows, listed_sections, list_fits, row_list_answer}
 use Rattle.rules.specs.CallLaws.{gate_through, gate_stop}
 use Rattle.rules.specs.Accepted.{Accepted}
-use Rattle.tatami.specs.declared.Filled.{Filled}
-use Rattle.tatami.specs.declared.Listed.{Listed}
-use Rattle.finding.specs.declared.gate.Way.{Way}
-use Rattle.finding.specs.declared.gate.Way.TheVariants.{Refused}
-use Rattle.tatami.specs.Left.{Left, LeftList, filled, listed, left, left_by, left_list, left_list_by, tatami_left, row_list_left}
-use Rattle.finding.specs.Stages.{Gated}
+use Rattle.refusal.specs.declared.Refusal.{Refusal}
+use Rattle.tatami.specs.Left.{Filled, Listed, said_filled, said_listed, Left, LeftList, filled, listed, left, left_by, left_list, left_list_by, tatami_left, row_list_left}
 use Rattle.finding.specs.declared.find.Found.{Found}
+use Rattle.tatami.specs.declared.Filled.{Filled as Sewn}
 use Rattle.tatami.specs.Stages.{Sewed, Noted, told}
 use Rattle.tatami.specs.RoomLaws.{counted_none, output_none, worked_none, worked_told}
 
@@ -30,7 +27,7 @@ pub front_is : {A : Type 0} (m m' d : List A) (k : ℕ) {x : List A} → m ≡ m
 front_is m m' d k e l h = h ∙ ap (λ j. m ++ drop j d) (sym l) ∙ ap (λ y. y ++ drop (length y) d) e
 
 -- what was found is all that a stage leaves, whatever stands in the working slices
-module _ (found : Found) (fits : Bool) where
+module _ (found : Result Found Refusal) (fits : Bool) where
   both_zero : {A : Type 0} (z : A) (l l' : List A) → length l ≡ length l' → worked (told found fits) z l ≡ worked (told found fits) z l'
   both_zero z l l' e = worked_told found fits z l ∙ ap (λ n. replicate n z) e ∙ sym (worked_told found fits z l')
 
@@ -61,11 +58,9 @@ module _ (corners : List Float) (ends : List ℕ) (g : Settings) (stagger : ℕ)
   stopped (suc n) rest e h = gate_stop corners ends g stagger rest n e
 
   module _ (ss : List (List P)) (points floats : List Float) (stops wholes : List ℕ) where
-    pub left_stopped : {r : Way} (n rest : ℕ) → Gated corners ends g stagger r → r ≡ Refused n
+    pub left_stopped : (n rest : ℕ) → (gate corners ends g stagger DONE ≡ n) × (1 ≤ n) × (n ≤ 5)
         → left (record { answer = n; sections = 0; points = 0 }) points stops floats wholes ≡ left_by (gate corners ends g stagger rest) ss points stops floats wholes
-    unfolding Gated
-    left_stopped n rest f e =
-        let h = subst (Gated corners ends g stagger) e f in
+    left_stopped n rest h =
         let sections = sym (counted_none h.1 (length ss)) in
         let many = sym (counted_none h.1 (length (sewn_points ss))) in
         let p = sym (output_none h.1 (flat (sewn_points ss)) points) in
@@ -75,11 +70,9 @@ module _ (corners : List Float) (ends : List ℕ) (g : Settings) (stagger : ℕ)
         (λ i. left (record { answer = n; sections = sections i; points = many i }) (p i) (q i) (zf i) (zw i)) ∙ ap (λ n. left_by n ss points stops floats wholes) (sym (stopped n rest h.0 h.1))
 
   module _ (es : List Entry) (ys floats : List Float) (rows : List ℤ) (sections wholes : List ℕ) where
-    pub list_stopped : {r : Way} (n rest : ℕ) → Gated corners ends g stagger r → r ≡ Refused n
+    pub list_stopped : (n rest : ℕ) → (gate corners ends g stagger DONE ≡ n) × (1 ≤ n) × (n ≤ 5)
         → left_list (record { answer = n; pieces = 0 }) ys rows sections floats wholes ≡ left_list_by (gate corners ends g stagger rest) es ys rows sections floats wholes
-    unfolding Gated
-    list_stopped n rest f e =
-        let h = subst (Gated corners ends g stagger) e f in
+    list_stopped n rest h =
         let many = sym (counted_none h.1 (length es)) in
         let p = sym (output_none h.1 (listed_floats es) ys) in
         let q = sym (output_none h.1 (listed_rows es) rows) in
@@ -90,11 +83,11 @@ module _ (corners : List Float) (ends : List ℕ) (g : Settings) (stagger : ℕ)
 
 module _ (corners : List Float) (ends : List ℕ) (rule : FillRule) (g : Settings) (stagger : ℕ) (upward : Bool) where
   module _ (points floats : List Float) (stops wholes : List ℕ) where
-    pub left_refused : {r : Way} (n : ℕ) → Gated corners ends g stagger r → r ≡ Refused n → left (record { answer = n; sections = 0; points = 0 }) points stops floats wholes ≡ tatami_left corners ends rule g stagger upward points stops floats wholes
+    pub left_refused : {r : Result Sewn Refusal} (e : Refusal) → r ≡ Err e → (gate corners ends g stagger DONE ≡ number e) × (1 ≤ number e) × (number e ≤ 5) → left (said_filled r) points stops floats wholes ≡ tatami_left corners ends rule g stagger upward points stops floats wholes
     unfolding tatami_left tatami_answer refusal
-    left_refused n f e = left_stopped corners ends g stagger (tatami (rings corners ends) rule g stagger upward) points floats stops wholes n _ f e
+    left_refused e is h = rw is (left_stopped corners ends g stagger (tatami (rings corners ends) rule g stagger upward) points floats stops wholes (number e) _ h)
 
-    pub left_done : (floats' : List Float) (wholes' : List ℕ) (found : Found) {l : Left} → Accepted corners ends g stagger → length floats' ≡ length floats → length wholes' ≡ length wholes
+    pub left_done : (floats' : List Float) (wholes' : List ℕ) (found : Result Found Refusal) {l : Left} → Accepted corners ends g stagger → length floats' ≡ length floats → length wholes' ≡ length wholes
         → let ss = tatami (rings corners ends) rule g stagger upward in
         let fits = sewn_fits ss (length points) (length stops) in
         told found fits ≡ roomed corners ends rule g upward (length floats) (length wholes) fits
@@ -107,11 +100,11 @@ module _ (corners : List Float) (ends : List ℕ) (rule : FillRule) (g : Setting
         h ∙ left_lent found fits floats _ wholes _ f w ss points stops ∙ ap (λ n. left_by n ss points stops floats wholes) (n ∙ sym (gate_through corners ends g stagger _ ok))
 
   module _ (ys floats : List Float) (rows : List ℤ) (sections wholes : List ℕ) where
-    pub list_refused : {r : Way} (n : ℕ) → Gated corners ends g stagger r → r ≡ Refused n → left_list (record { answer = n; pieces = 0 }) ys rows sections floats wholes ≡ row_list_left corners ends rule g stagger upward ys rows sections floats wholes
+    pub list_refused : {r : Result ℕ Refusal} (e : Refusal) → r ≡ Err e → (gate corners ends g stagger DONE ≡ number e) × (1 ≤ number e) × (number e ≤ 5) → left_list (said_listed r) ys rows sections floats wholes ≡ row_list_left corners ends rule g stagger upward ys rows sections floats wholes
     unfolding row_list_left row_list_answer refusal
-    list_refused n f e = list_stopped corners ends g stagger (row_list (rings corners ends) rule g upward) ys floats rows sections wholes n _ f e
+    list_refused e is h = rw is (list_stopped corners ends g stagger (row_list (rings corners ends) rule g upward) ys floats rows sections wholes (number e) _ h)
 
-    pub list_done : (floats' : List Float) (wholes' : List ℕ) (found : Found) {l : LeftList} → Accepted corners ends g stagger → length floats' ≡ length floats → length wholes' ≡ length wholes
+    pub list_done : (floats' : List Float) (wholes' : List ℕ) (found : Result Found Refusal) {l : LeftList} → Accepted corners ends g stagger → length floats' ≡ length floats → length wholes' ≡ length wholes
         → let es = row_list (rings corners ends) rule g upward in
         let fits = list_fits (length es) (length ys) (length rows) (length sections) in
         told found fits ≡ roomed corners ends rule g upward (length floats) (length wholes) fits

@@ -1,5 +1,5 @@
 -- What each number of document 01 leaves, and which number a stage's findings give. Assumes nothing.
-use Rattle.std.specs.Prelude.{ℕ, ◌*◌, ◌/◌, ◌≤◌, ◌<◌, ◌≡◌, refl, Bool, true, false, ◌&&◌, List, map, leb, replicate, ℤ, Float}
+use Rattle.std.specs.Prelude.{ℕ, ◌*◌, ◌/◌, ◌≤◌, ◌<◌, ◌≡◌, refl, Bool, true, false, ◌&&◌, List, map, leb, replicate, ℤ, Float, Result, Ok, Err}
 use Rattle.std.proofs.Common.{arith, sym, ap, ◌∙◌, subst, length-drop}
 use Rattle.std.proofs.Math.Bool.{and-false}
 use Rattle.std.proofs.Math.ListN.{length}
@@ -22,11 +22,10 @@ use Rattle.sewing.specs.declared.Field.{Field}
 use Rattle.sewing.specs.Sewing.{entries_in, Linked}
 use Rattle.sewing.specs.Tatami.{sewn_tatami}
 use Rattle.finding.specs.declared.Plan.{Plan}
-use Rattle.tatami.specs.declared.Filled.{Filled}
-use Rattle.tatami.specs.declared.Listed.{Listed}
 use Rattle.finding.specs.declared.find.Found.{Found}
-use Rattle.finding.specs.declared.find.Found.TheVariants.{Short, Held}
 use Rattle.finding.specs.Stages.{Passed, Finding, FoundIn}
+use Rattle.refusal.specs.declared.Refusal.{Refusal}
+use Rattle.tatami.specs.Left.{Filled, Listed}
 use Rattle.tatami.specs.Stages.{Handed, told, field_of, Sectioned, sewn_in, tatami_of, Sewed, sewn_room, list_of, Noted}
 use Rattle.finding.specs.FindLaws.{few_edges}
 
@@ -34,9 +33,10 @@ use Rattle.finding.specs.FindLaws.{few_edges}
 
 -- what was found in slices d and a
 module _ (corners : List Float) (ends : List ℕ) (t : Plan) (d : List Float) (a : List ℕ) where
-  handed_by : (r : Found) → Finding corners ends t d a r → Passed corners ends t → Handed corners ends t d a r
-  handed_by Short f p = tt
-  handed_by (Held e n) k p =
+  handed_by : (r : Result Found Refusal) → Finding corners ends t d a r → Passed corners ends t → Handed corners ends t d a r
+  handed_by (Err e) f p = f.0
+  handed_by (Ok f) k p =
+      let e = f.edges in
       let few : e ≤ 1024 = omega (arith, k.count, few_edges corners ends t p) in
       record {
         few = few;
@@ -50,10 +50,10 @@ module _ (corners : List Float) (ends : List ℕ) (t : Plan) (d : List Float) (a
         };
       }
 
-  told_by : (r : Found) → Finding corners ends t d a r → (fits : Bool) → told r fits ≡ roomed corners ends t.rule t.g t.upward (length d) (length a) fits
+  told_by : (r : Result Found Refusal) → Finding corners ends t d a r → (fits : Bool) → told r fits ≡ roomed corners ends t.rule t.g t.upward (length d) (length a) fits
   unfolding roomed
-  told_by Short f fits = rw f
-  told_by (Held e n) k fits =
+  told_by (Err e) f fits = rw f.1
+  told_by (Ok f) k fits =
       let edgesOf = length (edges t.g (rings corners ends)) in
       let pieces_of = length (list_of corners ends t) in
       rw (
@@ -62,7 +62,7 @@ module _ (corners : List Float) (ends : List ℕ) (t : Plan) (d : List Float) (a
       )
       (sym (room_told fits))
 
-  module _ {r : Found} (f : FoundIn corners ends t d a r) where
+  module _ {r : Result Found Refusal} (f : FoundIn corners ends t d a r) where
     pub handed : Passed corners ends t → Handed corners ends t d a r
     handed = handed_by r f.is
 
@@ -133,7 +133,7 @@ module _ {n : ℕ} (h : 1 ≤ n) where
   worked_none z l k = rw (le-leb 1 n h, le-leb n 5 k)
 
 -- WORK, ROOM and DONE leave zeros
-pub worked_told : (found : Found) (fits : Bool) {A : Type 0} (z : A) (l : List A) → worked (told found fits) z l ≡ replicate (length l) z
-worked_told Short fits z l = refl
-worked_told (Held e n) true z l = refl
-worked_told (Held e n) false z l = refl
+pub worked_told : (found : Result Found Refusal) (fits : Bool) {A : Type 0} (z : A) (l : List A) → worked (told found fits) z l ≡ replicate (length l) z
+worked_told (Err e) fits z l = refl
+worked_told (Ok f) true z l = refl
+worked_told (Ok f) false z l = refl

@@ -1,5 +1,7 @@
 -- What the later stages of a fill hand to the next. Definitions only.
-use Rattle.std.specs.Prelude.{ℕ, ◌*◌, ◌≤◌, ◌≡◌, Bool, cond, List, map, length, drop, get_or, Float, ℤ}
+use Rattle.std.specs.Prelude.{ℕ, ◌*◌, ◌≤◌, ◌≡◌, Bool, cond, List, map, length, drop, get_or, Float, ℤ, Result, Ok, Err}
+use Rattle.refusal.specs.declared.Refusal.{Refusal}
+use Rattle.refusal.specs.declared.Refusal.TheVariants.{Work}
 use Rattle.refusal.specs.Refusal.{WORK, ROOM, unless}
 use Rattle.refusal.specs.Sewn.{output}
 use Rattle.seqs.specs.Lists.{upto}
@@ -16,11 +18,8 @@ use Rattle.sewing.specs.declared.Field.{Field}
 use Rattle.sewing.specs.Sewing.{entries_in, first_sections, Linked}
 use Rattle.finding.specs.declared.Plan.{Plan}
 use Rattle.finding.specs.declared.find.Found.{Found}
-use Rattle.finding.specs.declared.find.Found.TheVariants.{Short, Held}
 use Rattle.finding.specs.Stages.{Passed, alone}
-use Rattle.tatami.specs.declared.Filled.{Filled}
-use Rattle.tatami.specs.declared.Listed.{Listed}
-use Rattle.tatami.specs.Left.{filled, listed}
+use Rattle.tatami.specs.Left.{Filled, Listed, filled, listed}
 
 -- the part behind the edges, as the later stages are lent it
 pub record Lent (corners : List Float) (ends : List ℕ) (t : Plan) (n : ℕ) (pieces : List Float) (numbers : List ℕ) : Type 0 where
@@ -37,14 +36,14 @@ pub record Behind (corners : List Float) (ends : List ℕ) (t : Plan) (e n : ℕ
   pub lent : Lent corners ends t n (drop (6 * e) d) (drop (4 * e) a)
 
 -- what was found, as the later stages are handed it
-abbrev pub Handed : List Float → List ℕ → Plan → List Float → List ℕ → Found → Type 0
-Handed corners ends t floats wholes Short = Unit {0}
-Handed corners ends t floats wholes (Held e n) = Behind corners ends t e n floats wholes
+abbrev pub Handed : List Float → List ℕ → Plan → List Float → List ℕ → Result Found Refusal → Type 0
+Handed corners ends t floats wholes (Err e) = e ≡ Work
+Handed corners ends t floats wholes (Ok f) = Behind corners ends t f.edges f.pieces floats wholes
 
 -- the number of a call that comes so far: WORK where the pieces didn't fit, then ROOM
-abbrev pub told : Found → Bool → ℕ
-told Short fits = WORK
-told (Held e n) fits = unless ROOM fits
+abbrev pub told : Result Found Refusal → Bool → ℕ
+told (Err e) fits = WORK
+told (Ok f) fits = unless ROOM fits
 
 -- what sewing is told: the number of the first row met, and which way they go
 abbrev pub field_of : Plan → ℕ → Field

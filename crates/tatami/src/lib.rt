@@ -5,32 +5,24 @@
 #![tactic(auto)]
 
 ghost use Rattle.std.specs.Prelude.{◌≡◌};
-ghost use Rattle.tatami.specs.Left.{left, left_list, tatami_left, row_list_left};
+ghost use Rattle.tatami.specs.Left.{said_filled, said_listed, left, left_list, tatami_left, row_list_left};
 
 pub mod list;
 pub mod sew;
 
 use crate::list::list_found;
 use crate::sew::sew_found;
-use finding::Plan;
 use finding::find::find;
-use finding::gate::{Way, gate};
+use finding::gate::plan;
 use outlines::FillRule;
+use refusal::Refusal;
 use rules::Settings;
 
-// What `tatami` says: document 01's number, how many sections and how many points; no section and no point after a refusal.
+// What `tatami` wrote: how many sections and how many points.
 #[derive(Clone, Copy)]
 pub struct Filled {
-    pub answer: u64,
     pub sections: u64,
     pub points: u64,
-}
-
-// What the row list says: the number, and how many pieces; none after a refusal.
-#[derive(Clone, Copy)]
-pub struct Listed {
-    pub answer: u64,
-    pub pieces: u64,
 }
 
 // The points of every section, x before y, to the front of `points`, and where each section ends, in points, to the front of `stops`.
@@ -45,30 +37,15 @@ pub fn tatami(
     stops: &mut [usize],
     floats: &mut [f64],
     wholes: &mut [usize],
-) -> Filled
-    ensures { left result points.new stops.new floats.new wholes.new ≡ tatami_left corners.now ends.now rule g stagger upward points.old stops.old floats.old wholes.old }
+) -> Result<Filled, Refusal>
+    ensures { left (said_filled result) points.new stops.new floats.new wholes.new ≡ tatami_left corners.now ends.now rule g stagger upward points.old stops.old floats.old wholes.old }
 {
-    match gate(corners, ends, g, stagger) {
-        Way::Refused(n) => Filled {
-            answer: n,
-            sections: 0,
-            points: 0,
-        },
-        Way::Open(w) => {
-            let t = Plan {
-                rule,
-                g,
-                stagger,
-                upward,
-                rows: w,
-            };
-            let found = find(corners, ends, t, floats, wholes);
-            sew_found(corners, ends, t, found, points, stops, floats, wholes)
-        }
-    }
+    let t = plan(corners, ends, rule, g, stagger, upward)?;
+    let found = find(t, floats, wholes);
+    sew_found(t, found, points, stops, floats, wholes)
 }
 
-// Every kept piece in the order met: y, xa and xb to the front of `ys`, its row number to `rows`, its section's number to `sections`.
+// Every kept piece in the order met: y, xa and xb to the front of `ys`, its row number to `rows`, its section's number to `sections`; how many.
 pub fn row_list(
     corners: &[f64],
     ends: &[usize],
@@ -81,24 +58,10 @@ pub fn row_list(
     sections: &mut [usize],
     floats: &mut [f64],
     wholes: &mut [usize],
-) -> Listed
-    ensures { left_list result ys.new rows.new sections.new floats.new wholes.new ≡ row_list_left corners.now ends.now rule g stagger upward ys.old rows.old sections.old floats.old wholes.old }
+) -> Result<u64, Refusal>
+    ensures { left_list (said_listed result) ys.new rows.new sections.new floats.new wholes.new ≡ row_list_left corners.now ends.now rule g stagger upward ys.old rows.old sections.old floats.old wholes.old }
 {
-    match gate(corners, ends, g, stagger) {
-        Way::Refused(n) => Listed {
-            answer: n,
-            pieces: 0,
-        },
-        Way::Open(w) => {
-            let t = Plan {
-                rule,
-                g,
-                stagger,
-                upward,
-                rows: w,
-            };
-            let found = find(corners, ends, t, floats, wholes);
-            list_found(corners, ends, t, found, ys, rows, sections, floats, wholes)
-        }
-    }
+    let t = plan(corners, ends, rule, g, stagger, upward)?;
+    let found = find(t, floats, wholes);
+    list_found(t, found, ys, rows, sections, floats, wholes)
 }

@@ -3,14 +3,13 @@ ghost use Rattle.std.specs.Prelude.{◌≡◌, ◌++◌, ℕ, ◌+◌, ◌*◌, 
 ghost use Rattle.rules.specs.Calls.{list_fits};
 ghost use Rattle.edges.specs.Span.{Spanned};
 ghost use Rattle.sewing.specs.Sewing.{numbers_in};
-ghost use Rattle.tatami.specs.Left.{left_list, left_list_by};
+ghost use Rattle.tatami.specs.Left.{said_listed, left_list, left_list_by};
 ghost use Rattle.tatami.specs.Stages.{Lent, Handed, told, list_of, rows_in, Noted, list_room};
 
-use crate::Listed;
 use edges::{Rows, row_number};
 use finding::Plan;
 use finding::find::Found;
-use refusal::{DONE, ROOM, WORK};
+use refusal::Refusal;
 use sections::{Fill, mark_all};
 
 // The row numbers of n pieces, by the counts of their rows.
@@ -41,10 +40,8 @@ fn has_room(n: usize, ys: &[f64], rows: &[i64], sections: &[usize]) -> bool
     3 * n <= ys.len() && n <= rows.len() && n <= sections.len()
 }
 
-// The part behind the edges, listed.
+// The part behind the edges, listed: how many pieces.
 fn list_pieces(
-    corners: &[f64],
-    ends: &[usize],
     t: Plan,
     n: usize,
     pieces: &[f64],
@@ -52,57 +49,45 @@ fn list_pieces(
     ys: &mut [f64],
     rows: &mut [i64],
     sections: &mut [usize],
-) -> Listed
-    requires { Lent corners.now ends.now t n pieces.now numbers.old }
-    ensures { Noted (list_room n ys.old rows.old sections.old) (list_of corners.now ends.now t) ys.old ys.new rows.old rows.new sections.old sections.new result }
+) -> Result<u64, Refusal>
+    requires { Lent t.outline.corners.now t.outline.ends.now t n pieces.now numbers.old }
+    ensures { Noted (list_room n ys.old rows.old sections.old) (list_of t.entry.outline.corners.now t.entry.outline.ends.now t.entry) ys.old ys.new rows.old rows.new sections.old sections.new (said_listed result) }
 {
     if !has_room(n, ys, rows, sections) {
-        return Listed {
-            answer: ROOM,
-            pieces: 0,
-        };
+        return Err(Refusal::Room);
     }
-    let rule = t.rule;
-    let settings = t.g;
-    let f = Fill { rule, settings };
+    let f = Fill {
+        rule: t.rule,
+        settings: t.g,
+    };
     let w = t.rows;
-    mark_all(corners, ends, f, pieces, numbers, n, w.n);
+    mark_all(t.outline, f, pieces, numbers, n, w.n);
     ys[..3 * n].copy_from_slice(&pieces[..3 * n]);
     put_rows(rows, numbers, w, t.upward, n);
     put_sections(sections, numbers, n);
-    Listed {
-        answer: DONE,
-        pieces: n as u64,
-    }
+    Ok(n as u64)
 }
 
 // What was found, listed: WORK, ROOM or the answer. The working slices are zero on the way out.
 pub fn list_found(
-    corners: &[f64],
-    ends: &[usize],
     t: Plan,
-    found: Found,
+    found: Result<Found, Refusal>,
     ys: &mut [f64],
     rows: &mut [i64],
     sections: &mut [usize],
     floats: &mut [f64],
     wholes: &mut [usize],
-) -> Listed
-    requires { Handed corners.now ends.now t floats.old wholes.old found }
-    ensures { left_list result ys.new rows.new sections.new floats.new wholes.new ≡ left_list_by (told found (list_fits (length (list_of corners.now ends.now t)) (length ys.old) (length rows.old) (length sections.old))) (list_of corners.now ends.now t) ys.old rows.old sections.old floats.old wholes.old }
+) -> Result<u64, Refusal>
+    requires { Handed t.outline.corners.now t.outline.ends.now t floats.old wholes.old found }
+    ensures { left_list (said_listed result) ys.new rows.new sections.new floats.new wholes.new ≡ left_list_by (told found (list_fits (length (list_of t.entry.outline.corners.now t.entry.outline.ends.now t.entry)) (length ys.old) (length rows.old) (length sections.old))) (list_of t.entry.outline.corners.now t.entry.outline.ends.now t.entry) ys.old rows.old sections.old floats.old wholes.old }
 {
     let r = match found {
-        Found::Short => Listed {
-            answer: WORK,
-            pieces: 0,
-        },
-        Found::Held(e, n) => list_pieces(
-            corners,
-            ends,
+        Err(e) => Err(e),
+        Ok(f) => list_pieces(
             t,
-            n,
-            &floats[6 * e..],
-            &mut wholes[4 * e..],
+            f.pieces,
+            &floats[6 * f.edges..],
+            &mut wholes[4 * f.edges..],
             ys,
             rows,
             sections,

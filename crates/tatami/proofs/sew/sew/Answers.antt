@@ -22,14 +22,14 @@ unfolding sewn_points
 returns-then-n-room c =
     let a = c.args in
     let ss = sewn_in a.f a.sections a.pieces.now a.numbers.now in
-    rw (room_points ss a.points.now a.stops.now c.count-n.ensures c.if-n-room.true) (refl, refl, refl)
+    rw (room_points ss a.points.now a.stops.now (rw c.ready-t.ensures at c.count-n.ensures) c.if-n-room.true) (refl, refl, refl)
 
 pub write-requires : goal.write-requires
 unfolding sewn_points
 write-requires c =
     let a = c.args in
     let ss = sewn_in a.f a.sections a.pieces.now a.numbers.now in
-    (c.requires, c.ready-t.ensures, omega (arith, flat_length (sewn_points ss), points_fit ss a.points.now a.stops.now c.count-n.ensures c.if-n-room.false), c.if-sections-stops.false)
+    rw c.ready-t.ensures (c.requires, omega (arith, flat_length (sewn_points ss), points_fit ss a.points.now a.stops.now (rw c.ready-t.ensures at c.count-n.ensures) c.if-n-room.false), c.if-sections-stops.false)
 
 pub returns : goal.returns
 unfolding sewn_points
@@ -37,6 +37,6 @@ returns c =
     let a = c.args in
     let ss = sewn_in a.f a.sections a.pieces.now a.numbers.now in
     let many = sewn_count a.f a.sections a.pieces.now a.numbers.now in
-    let n = points_are ss a.points.now a.stops.now c.count-n.ensures c.if-n-room.false in
-    rw (room_enough ss a.points.now a.stops.now c.count-n.ensures c.if-n-room.false (omega (arith, many, c.if-sections-stops.false)))
-    (λ i. record { answer = DONE; sections = sym many i; points = n i }, c.write.ensures.0, c.write.ensures.1)
+    let n = points_are ss a.points.now a.stops.now (rw c.ready-t.ensures at c.count-n.ensures) c.if-n-room.false in
+    rw (room_enough ss a.points.now a.stops.now (rw c.ready-t.ensures at c.count-n.ensures) c.if-n-room.false (omega (arith, many, c.if-sections-stops.false)))
+    (λ i. record { answer = DONE; sections = sym many i; points = n i }, (rw c.ready-t.ensures at c.write.ensures.0), (rw c.ready-t.ensures at c.write.ensures.1))
