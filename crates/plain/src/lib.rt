@@ -5,17 +5,17 @@
 #![tactic(auto)]
 
 ghost use Rattle.std.specs.Prelude.{◌≡◌};
-ghost use Rattle.tatami.specs.Left.{left, left_list};
+ghost use Rattle.tatami.specs.Left.{said_filled, said_listed, left, left_list};
 ghost use Rattle.plain.specs.Plain.{plain_tatami_left, plain_row_list_left};
 
-use finding::Plan;
-use finding::gate::{Way, gate};
+use finding::gate::plan;
 use outlines::FillRule;
+use refusal::Refusal;
 use rowwise::find::find;
 use rules::Settings;
 use tatami::list::list_found;
 use tatami::sew::sew_found;
-use tatami::{Filled, Listed};
+use tatami::Filled;
 
 // The points of every section, x before y, to the front of `points`, and where each section ends, in points, to the front of `stops`.
 pub fn tatami(
@@ -29,30 +29,15 @@ pub fn tatami(
     stops: &mut [usize],
     floats: &mut [f64],
     wholes: &mut [usize],
-) -> Filled
-    ensures { left result points.new stops.new floats.new wholes.new ≡ plain_tatami_left corners.now ends.now rule g stagger upward points.old stops.old floats.old wholes.old }
+) -> Result<Filled, Refusal>
+    ensures { left (said_filled result) points.new stops.new floats.new wholes.new ≡ plain_tatami_left corners.now ends.now rule g stagger upward points.old stops.old floats.old wholes.old }
 {
-    match gate(corners, ends, g, stagger) {
-        Way::Refused(n) => Filled {
-            answer: n,
-            sections: 0,
-            points: 0,
-        },
-        Way::Open(w) => {
-            let t = Plan {
-                rule,
-                g,
-                stagger,
-                upward,
-                rows: w,
-            };
-            let found = find(corners, ends, t, floats, wholes);
-            sew_found(corners, ends, t, found, points, stops, floats, wholes)
-        }
-    }
+    let t = plan(corners, ends, rule, g, stagger, upward)?;
+    let found = find(t, floats, wholes);
+    sew_found(t, found, points, stops, floats, wholes)
 }
 
-// Every kept piece in the order met: y, xa and xb to the front of `ys`, its row number to `rows`, its section's number to `sections`.
+// Every kept piece in the order met: y, xa and xb to the front of `ys`, its row number to `rows`, its section's number to `sections`; how many.
 pub fn row_list(
     corners: &[f64],
     ends: &[usize],
@@ -65,24 +50,10 @@ pub fn row_list(
     sections: &mut [usize],
     floats: &mut [f64],
     wholes: &mut [usize],
-) -> Listed
-    ensures { left_list result ys.new rows.new sections.new floats.new wholes.new ≡ plain_row_list_left corners.now ends.now rule g stagger upward ys.old rows.old sections.old floats.old wholes.old }
+) -> Result<u64, Refusal>
+    ensures { left_list (said_listed result) ys.new rows.new sections.new floats.new wholes.new ≡ plain_row_list_left corners.now ends.now rule g stagger upward ys.old rows.old sections.old floats.old wholes.old }
 {
-    match gate(corners, ends, g, stagger) {
-        Way::Refused(n) => Listed {
-            answer: n,
-            pieces: 0,
-        },
-        Way::Open(w) => {
-            let t = Plan {
-                rule,
-                g,
-                stagger,
-                upward,
-                rows: w,
-            };
-            let found = find(corners, ends, t, floats, wholes);
-            list_found(corners, ends, t, found, ys, rows, sections, floats, wholes)
-        }
-    }
+    let t = plan(corners, ends, rule, g, stagger, upward)?;
+    let found = find(t, floats, wholes);
+    list_found(t, found, ys, rows, sections, floats, wholes)
 }

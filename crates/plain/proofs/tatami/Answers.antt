@@ -1,31 +1,27 @@
--- The gate, the stages, then zeros. Assumes nothing.
-use mathlib.Core.Path.{subst}
-use Rattle.finding.specs.Stages.{Gated}
+-- The gate, the pieces, and what was found. Assumes nothing.
+use Rattle.std.proofs.Common.{rules, length}
+use Rattle.std.proofs.lemmas.Result.{err_from_is_err_and}
+use Rattle.finding.specs.Stages.{Planned}
+use Rattle.finding.specs.FindLaws.{passed}
 use Rattle.plain.specs.PlainLaws.{handed, told_is}
 use Rattle.plain.specs.PlainLaws.{plain_refused, plain_done}
-use borrow.Author.Rules.{rules}
 use Rattle.plain.proofs.tatami.Goals as goal
 
-pub find-found-requires : goal.find-found-requires
-unfolding Gated
-find-found-requires c =
+pub returns-in_err-t : goal.returns-in_err-t
+unfolding Planned
+returns-in_err-t c =
     let a = c.args in
-    let h = subst (Gated a.corners.now a.ends.now a.g a.stagger) c.in-Open.is c.gate.ensures in
-    record { accepted = h.0; rows = h.1 }
+    let p = err_from_is_err_and c.from_residual.result c.from_residual.ensures.1 in
+    plain_refused a.corners.now a.ends.now a.rule a.g a.stagger a.upward a.points.now a.floats.now a.stops.now a.wholes.now _ p.1 (rw p.2 c.in_err-t.ensures)
 
 pub sew_found-requires : goal.sew_found-requires
-unfolding Gated
-sew_found-requires c =
-    let a = c.args in
-    let h = subst (Gated a.corners.now a.ends.now a.g a.stagger) c.in-Open.is c.gate.ensures in
-    handed a.corners.now a.ends.now _ _ _ c.find-found.ensures (record { accepted = h.0; rows = h.1 })
+sew_found-requires c = let t = c.in_ok-t.t in handed t.outline.corners.now t.outline.ends.now t _ _ c.find-found.ensures (passed t)
 
-pub returns-in-Refused : goal.returns-in-Refused
-returns-in-Refused c = let a = c.args in plain_refused a.corners.now a.ends.now a.rule a.g a.stagger a.upward a.points.now a.floats.now a.stops.now a.wholes.now _ c.gate.ensures c.in-Refused.is
-
-pub returns-in-Open : goal.returns-in-Open
-unfolding Gated
-returns-in-Open c =
+pub returns : goal.returns
+unfolding Planned
+returns c =
     let a = c.args in
-    let h = subst (Gated a.corners.now a.ends.now a.g a.stagger) c.in-Open.is c.gate.ensures in
-    plain_done a.corners.now a.ends.now a.rule a.g a.stagger a.upward a.points.now a.floats.now a.stops.now a.wholes.now _ _ _ h.0 (search rules) (search rules) (told_is a.corners.now a.ends.now _ _ _ c.find-found.ensures _ _ (search rules) (search rules) _) c.sew_found.ensures
+    let t = c.in_ok-t.t in
+    let p = c.in_ok-t.ensures in
+    let n = told_is t.outline.corners.now t.outline.ends.now t _ _ c.find-found.ensures (length a.floats.now) (length a.wholes.now) (search rules) (search rules) _ in
+    rw (p.corners_are, p.ends_are, p.ruled, p.set, p.staggered, p.up) at (plain_done t.outline.corners.now t.outline.ends.now t.rule t.g t.stagger t.upward a.points.now a.floats.now a.stops.now a.wholes.now c.find-found.new.floats c.find-found.new.wholes c.find-found.result t.accepted (search rules) (search rules) n c.sew_found.ensures)
