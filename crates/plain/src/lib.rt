@@ -13,9 +13,9 @@ use outlines::FillRule;
 use refusal::Refusal;
 use rowwise::find::find;
 use rules::Settings;
+use tatami::Filled;
 use tatami::list::list_found;
 use tatami::sew::sew_found;
-use tatami::Filled;
 
 // The points of every section, x before y, to the front of `points`, and where each section ends, in points, to the front of `stops`.
 pub fn tatami(

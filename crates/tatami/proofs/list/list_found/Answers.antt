@@ -1,5 +1,5 @@
 -- What was found, listed, then zeros. Assumes nothing.
-use Rattle.std.proofs.Common.{rules, ◌≡◌, length, ◌∙◌, ap, sym, replicate}
+use Rattle.std.proofs.Common.{Err, rules, ◌≡◌, length, ◌∙◌, ap, sym, replicate}
 use lib.Ieee.{of_bits}
 use Rattle.rules.specs.Calls.{list_fits}
 use Rattle.refusal.specs.Refusal.{ROOM, unless}
@@ -22,7 +22,7 @@ returns c =
     elim c.match-found.branch [
       | in-Err w ↦
           let e : w.in-Err.e ≡ Work = rw w.in-Err.is at c.requires in
-          rw w.in-Err.is (rw (w.r-is, e), w.ys-is, w.rows-is, w.sections-is)
+          rw w.in-Err.is (ap said_listed (w.r-is ∙ ap Err e), w.ys-is, w.rows-is, w.sections-is)
       | in-Ok w ↦
           let k : Behind a.t.outline.corners.now a.t.outline.ends.now a.t w.in-Ok.f.edges w.in-Ok.f.pieces a.floats.now a.wholes.now = rw w.in-Ok.is at c.requires in
           let n = k.lent.laid.count ∙ alone_count a.t.outline.corners.now a.t.outline.ends.now a.t in
