@@ -1,4 +1,0 @@
-use Rattle.sections.proofs.entry_at.Goals as goal
-
-pub returns : goal.returns
-returns c = rw c.piece_at.ensures
