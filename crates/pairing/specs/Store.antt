@@ -5,6 +5,7 @@ use Rattle.geom.specs.declared.point.P.{P}
 use Rattle.geom.specs.Outline.{points}
 use Rattle.geom.specs.Sewing.{flat}
 use Rattle.limits.specs.Limits.{good_numbers}
+use Rattle.polyline.specs.Line.{polyline_length}
 use Rattle.satinrules.specs.Arc.{lengths}
 use Rattle.satinrules.specs.declared.Pair.{Pair}
 use Rattle.satinrules.specs.Pairs.{pair_at}
@@ -18,6 +19,11 @@ pub record Laid (a b rails : List Float) : Type 0 where
   pub on_b : take (length b / 2) (drop (length a / 2) rails) ≡ lengths (points b)
   pub rail_a : Railed a (lengths (points a))
   pub rail_b : Railed b (lengths (points b))
+
+-- both rails end there
+pub record Ended (a b : List Float) (ends : P) : Type 0 where
+  pub at_a : ends.x ≡ polyline_length (points a)
+  pub at_b : ends.y ≡ polyline_length (points b)
 
 -- rails that were accepted, of 2 corners or more
 pub record Sound (a b : List Float) : Type 0 where

@@ -20,11 +20,11 @@ use Rattle.geom.specs.SewingLaws.{flat_length, points_room, points_put}
 use Rattle.polyline.specs.Line.{length_from, polyline_length}
 use Rattle.satinrules.specs.declared.Pair.{Pair}
 use Rattle.satinrules.specs.Arc.{lengths_from, lengths, rail_at}
-use Rattle.satinrules.specs.Pairs.{pair_at}
+use Rattle.satinrules.specs.Pairs.{ends_of, pair_at}
 use Rattle.satinrules.specs.Calls.{rails_of, both_points}
 use Rattle.arc.specs.RailLaws.{lengths_count}
 use Rattle.arc.specs.Rise.{railed}
-use Rattle.pairing.specs.Store.{Laid, Sound, stored_pairs, put_within}
+use Rattle.pairing.specs.Store.{Laid, Ended, Sound, stored_pairs, put_within}
 
 pub rail_count : (l : List Float) → length (lengths (points l)) ≡ length l / 2
 rail_count l = lengths_count (points l) ∙ points_length l
@@ -190,3 +190,8 @@ module _ {a b rails : List Float} (l : Laid a b rails) where
 
   pub some_b_lem : 1 ≤ length b / 2
   some_b_lem = omega (arith, l.rail_b.some, rail_count b)
+
+-- the place where both rails end
+pub in_step : {a b : List Float} {ends : P} → Ended a b ends → ends ≡ ends_of (rails_of a b [])
+unfolding ends_of rails_of
+in_step e = rw (← e.at_a, ← e.at_b) refl
