@@ -7,11 +7,11 @@ ghost use Rattle.satinrules.specs.Column.{bit, underlay};
 ghost use Rattle.satinrules.specs.Settings.{zigzag_underlay_spacing};
 ghost use Rattle.satinrules.specs.Calls.{rails_of};
 ghost use Rattle.pairing.specs.Walk.{walk_places};
-ghost use Rattle.pairing.specs.Store.{Laid, stored_pairs};
+ghost use Rattle.pairing.specs.Store.{stored_pairs};
 ghost use Rattle.passes.specs.Threads.{pairs_in};
 ghost use Rattle.satin.specs.Underlay.{Fit, runs, over_if, runs_over, underlay_count};
 
-use geom::P;
+use pairing::Rails;
 use pairing::places::Pass;
 use pairing::store::lay_pairs;
 use passes::threads::{Thread, put_thread};
@@ -21,29 +21,16 @@ use satinrules::Satin;
 pub fn runs(g: Satin) -> bool
     ensures { result ≡ runs g }
 {
-    if g.underlay % 2 == 1 {
-        return true;
-    }
-    g.underlay / 2 % 2 == 1
+    g.underlay % 2 == 1 || g.underlay / 2 % 2 == 1
 }
 
 // The pairs of a pass to the front of the working slice, where it is sewn.
-fn lay_if(
-    sewn: bool,
-    work: &mut [f64],
-    rails: &[f64],
-    a: &[f64],
-    b: &[f64],
-    sync: &[f64],
-    ends: P,
-    pass: Pass,
-)
-    requires { Laid a.now b.now rails.now × (sewn ≡ true → (pass.n ≤ 65536) × (4 * length (walk_places ends (points sync.now) pass) ≤ length work.old)) }
-    ensures { (length work.new ≡ length work.old) × (sewn ≡ true → take (4 * length (walk_places ends (points sync.now) pass)) work.new ≡ stored_pairs a.now b.now sync.now (walk_places ends (points sync.now) pass)) }
+fn lay_if(sewn: bool, work: &mut [f64], rails: Rails, pass: Pass)
+    requires { sewn ≡ true → (pass.n ≤ 65536) × (4 * length (walk_places rails.course.ends (points rails.course.sync.now) pass) ≤ length work.old) }
+    ensures { (length work.new ≡ length work.old) × (sewn ≡ true → take (4 * length (walk_places rails.entry.course.ends (points rails.entry.course.sync.now) pass)) work.new ≡ stored_pairs rails.entry.a.now rails.entry.b.now rails.entry.course.sync.now (walk_places rails.entry.course.ends (points rails.entry.course.sync.now) pass)) }
 {
     if sewn {
-        lay_pairs(work, rails, a, b, sync, ends, pass);
-        return;
+        lay_pairs(work, rails, pass);
     }
 }
 
@@ -53,9 +40,10 @@ fn put_if(sewn: bool, out: &mut [f64], k: usize, s: &[f64], thread: Thread, back
     ensures { (out.new ≡ put out.old k (flat (over_if sewn thread back (pairs_in (points s.now))))) × (result ≡ k + 2 * length (over_if sewn thread back (pairs_in (points s.now)))) }
 {
     if sewn {
-        return put_thread(out, k, s, thread, back);
+        put_thread(out, k, s, thread, back)
+    } else {
+        k
     }
-    k
 }
 
 // The passes by run_len over the pairs s, to the front of out: the centre, then the contour out along one side and back along the other; answers the place after them.
@@ -74,24 +62,20 @@ fn put_runs(out: &mut [f64], s: &[f64], g: Satin) -> usize
 pub fn put_underlay(
     work: &mut [f64],
     out: &mut [f64],
-    rails: &[f64],
-    a: &[f64],
-    b: &[f64],
-    sync: &[f64],
-    ends: P,
+    rails: Rails,
     run: Pass,
     n: usize,
     zigzag: Pass,
     m: usize,
     g: Satin,
 ) -> usize
-    requires { Laid a.now b.now rails.now × (runs g ≡ true → Fit a.now b.now sync.now g.run_len ends run n) × (bit g 4 ≡ true → Fit a.now b.now sync.now zigzag_underlay_spacing ends zigzag m) × (4 * n ≤ length work.old) × (4 * m ≤ length work.old) × (2 * length (underlay (rails_of a.now b.now sync.now) g) ≤ length out.old) }
-    ensures { (out.new ≡ put out.old 0 (flat (underlay (rails_of a.now b.now sync.now) g))) × (result ≡ 2 * length (underlay (rails_of a.now b.now sync.now) g)) × (length work.new ≡ length work.old) }
+    requires { (runs g ≡ true → Fit rails.a.now rails.b.now rails.course.sync.now g.run_len rails.course.ends run n) × (bit g 4 ≡ true → Fit rails.a.now rails.b.now rails.course.sync.now zigzag_underlay_spacing rails.course.ends zigzag m) × (4 * n ≤ length work.old) × (4 * m ≤ length work.old) × (2 * length (underlay (rails_of rails.a.now rails.b.now rails.course.sync.now) g) ≤ length out.old) }
+    ensures { (out.new ≡ put out.old 0 (flat (underlay (rails_of rails.entry.a.now rails.entry.b.now rails.entry.course.sync.now) g))) × (result ≡ 2 * length (underlay (rails_of rails.entry.a.now rails.entry.b.now rails.entry.course.sync.now) g)) × (length work.new ≡ length work.old) }
 {
     let crossed = g.underlay / 4 % 2 == 1;
-    lay_if(runs(g), work, rails, a, b, sync, ends, run);
+    lay_if(runs(g), work, rails, run);
     let k = put_runs(out, &work[0..4 * n], g);
-    lay_if(crossed, work, rails, a, b, sync, ends, zigzag);
+    lay_if(crossed, work, rails, zigzag);
     put_if(
         crossed,
         out,
@@ -116,8 +100,5 @@ pub fn count_underlay(n: usize, m: usize, g: Satin) -> usize
 fn once(sewn: bool, n: usize) -> usize
     ensures { (result ≡ cond sewn n 0) × (result ≤ n) }
 {
-    if sewn {
-        return n;
-    }
-    0
+    if sewn { n } else { 0 }
 }

@@ -11,6 +11,7 @@ use Rattle.geom.specs.SewingLaws.{flat_length}
 use Rattle.satinrules.specs.Pairs.{pairs}
 use Rattle.satinrules.specs.Calls.{rails_of, need, both_points}
 use Rattle.pairing.specs.WalkLaws.{places_bound}
+use Rattle.pairing.specs.StoreLaws.{in_step}
 use Rattle.satin.specs.PassedLaws.{passed_size, passed_work, passed_room, passed_done, pairs_stored, pairs_count, pass_n, pass_places, need_room}
 use borrow.Author.Rules.{rules}
 use Rattle.satin.proofs.matched.pairs_along.Goals as goal
@@ -18,16 +19,16 @@ use Rattle.satin.proofs.matched.pairs_along.Goals as goal
 pub returns-then-pass-gt-MOST_PAIRS : goal.returns-then-pass-gt-MOST_PAIRS
 returns-then-pass-gt-MOST_PAIRS c =
     let a = c.args in
-    let n = pass_n a.a.now a.b.now a.sync.now a.step c.ends_of-ends.ensures c.pass_of-pass.ensures in
-    rw (passed_size a.a.now a.b.now a.sync.now a.step c.requires.1 (length a.work.now) (length a.out.now) (rw n at c.if-pass-gt-MOST_PAIRS.true)) (refl, refl, refl)
+    let n = pass_n a.rails.a.now a.rails.b.now a.rails.course.sync.now a.step (in_step c.args.rails.ended) c.pass-pass.ensures in
+    rw (passed_size a.rails.a.now a.rails.b.now a.rails.course.sync.now a.step c.requires (length a.work.now) (length a.out.now) (rw n at c.if-pass-gt-MOST_PAIRS.true)) (refl, refl, refl)
 
 pub lay_pairs-n-requires : goal.lay_pairs-n-requires
-lay_pairs-n-requires c = (c.requires.0, omega (arith, c.if-pass-gt-MOST_PAIRS.false))
+lay_pairs-n-requires c = omega (arith, c.if-pass-gt-MOST_PAIRS.false)
 
 pub need-requires : goal.need-requires
 need-requires c =
     let a = c.args in
-    let few : c.lay_pairs-n.result ≤ 65537 = omega (arith, c.if-pass-gt-MOST_PAIRS.false, c.lay_pairs-n.ensures.0, places_bound c.ends_of-ends.result (points a.sync.now) c.pass_of-pass.result) in
+    let few : c.lay_pairs-n.result ≤ 65537 = omega (arith, c.if-pass-gt-MOST_PAIRS.false, c.lay_pairs-n.ensures.0, places_bound c.args.rails.course.ends (points a.rails.course.sync.now) c.pass-pass.result) in
     few
 
 pub shape_of-work-then-work-need : goal.shape_of-work-then-work-need
@@ -37,17 +38,17 @@ pub returns-then-work-need : goal.returns-then-work-need
 unfolding of_bits
 returns-then-work-need c =
     let a = c.args in
-    let m = pass_n a.a.now a.b.now a.sync.now a.step c.ends_of-ends.ensures c.pass_of-pass.ensures in
+    let m = pass_n a.rails.a.now a.rails.b.now a.rails.course.sync.now a.step (in_step c.args.rails.ended) c.pass-pass.ensures in
     let sizes = rw m at c.if-pass-gt-MOST_PAIRS.false in
-    let q = pass_places a.a.now a.b.now a.sync.now a.step c.ends_of-ends.ensures c.pass_of-pass.ensures in
+    let q = pass_places a.rails.a.now a.rails.b.now a.rails.course.sync.now a.step (in_step c.args.rails.ended) c.pass-pass.ensures in
     let count = c.lay_pairs-n.ensures.0 ∙ ap length q in
-    let m = c.need.ensures ∙ ap (need (rails_of a.a.now a.b.now a.sync.now)) count in
-    rw (passed_work a.a.now a.b.now a.sync.now a.step c.requires.1 (length a.work.now) (length a.out.now) sizes (rw (m, c.lay_pairs-n.ensures.1) at c.if-work-need.true)) (refl, refl, rw c.lay_pairs-n.ensures.1 at (c.fill.ensures.after (λ y h. search rules)))
+    let m = c.need.ensures ∙ ap (need (rails_of a.rails.a.now a.rails.b.now a.rails.course.sync.now)) count in
+    rw (passed_work a.rails.a.now a.rails.b.now a.rails.course.sync.now a.step c.requires (length a.work.now) (length a.out.now) sizes (rw (m, c.lay_pairs-n.ensures.1) at c.if-work-need.true)) (refl, refl, rw c.lay_pairs-n.ensures.1 at (c.fill.ensures.after (λ y h. search rules)))
 
 pub overflow_mul-n : goal.overflow_mul-n
 overflow_mul-n c =
     let a = c.args in
-    let few : c.lay_pairs-n.result ≤ 65537 = omega (arith, c.if-pass-gt-MOST_PAIRS.false, c.lay_pairs-n.ensures.0, places_bound c.ends_of-ends.result (points a.sync.now) c.pass_of-pass.result) in
+    let few : c.lay_pairs-n.result ≤ 65537 = omega (arith, c.if-pass-gt-MOST_PAIRS.false, c.lay_pairs-n.ensures.0, places_bound c.args.rails.course.ends (points a.rails.course.sync.now) c.pass-pass.result) in
     omega (arith, few)
 
 pub shape_of-work-then-out-n : goal.shape_of-work-then-out-n
@@ -57,36 +58,36 @@ pub returns-then-out-n : goal.returns-then-out-n
 unfolding of_bits
 returns-then-out-n c =
     let a = c.args in
-    let m = pass_n a.a.now a.b.now a.sync.now a.step c.ends_of-ends.ensures c.pass_of-pass.ensures in
+    let m = pass_n a.rails.a.now a.rails.b.now a.rails.course.sync.now a.step (in_step c.args.rails.ended) c.pass-pass.ensures in
     let sizes = rw m at c.if-pass-gt-MOST_PAIRS.false in
-    let q = pass_places a.a.now a.b.now a.sync.now a.step c.ends_of-ends.ensures c.pass_of-pass.ensures in
+    let q = pass_places a.rails.a.now a.rails.b.now a.rails.course.sync.now a.step (in_step c.args.rails.ended) c.pass-pass.ensures in
     let count = c.lay_pairs-n.ensures.0 ∙ ap length q in
-    let m = c.need.ensures ∙ ap (need (rails_of a.a.now a.b.now a.sync.now)) count in
-    rw (passed_room a.a.now a.b.now a.sync.now a.step c.requires.1 (length a.work.now) (length a.out.now) sizes (rw (m, c.lay_pairs-n.ensures.1) at c.if-work-need.false) (rw count at c.if-out-n.true)) (refl, refl, rw c.lay_pairs-n.ensures.1 at (c.fill-then-out-n.ensures.after (λ y h. search rules)))
+    let m = c.need.ensures ∙ ap (need (rails_of a.rails.a.now a.rails.b.now a.rails.course.sync.now)) count in
+    rw (passed_room a.rails.a.now a.rails.b.now a.rails.course.sync.now a.step c.requires (length a.work.now) (length a.out.now) sizes (rw (m, c.lay_pairs-n.ensures.1) at c.if-work-need.false) (rw count at c.if-out-n.true)) (refl, refl, rw c.lay_pairs-n.ensures.1 at (c.fill-then-out-n.ensures.after (λ y h. search rules)))
 
 pub overflow_mul-n-2 : goal.overflow_mul-n-2
 overflow_mul-n-2 c =
     let a = c.args in
-    let few : c.lay_pairs-n.result ≤ 65537 = omega (arith, c.if-pass-gt-MOST_PAIRS.false, c.lay_pairs-n.ensures.0, places_bound c.ends_of-ends.result (points a.sync.now) c.pass_of-pass.result) in
+    let few : c.lay_pairs-n.result ≤ 65537 = omega (arith, c.if-pass-gt-MOST_PAIRS.false, c.lay_pairs-n.ensures.0, places_bound c.args.rails.course.ends (points a.rails.course.sync.now) c.pass-pass.result) in
     omega (arith, few)
 
 pub slice_bounds-copy_from_slice-end-3 : goal.slice_bounds-copy_from_slice-end-3
-slice_bounds-copy_from_slice-end-3 c = omega (arith, need_room c.args.a.now c.args.b.now c.args.sync.now c.lay_pairs-n.result (length c.lay_pairs-n.new.w) (rw c.need.ensures at c.if-work-need.false))
+slice_bounds-copy_from_slice-end-3 c = omega (arith, need_room c.args.rails.a.now c.args.rails.b.now c.args.rails.course.sync.now c.lay_pairs-n.result (length c.lay_pairs-n.new.w) (rw c.need.ensures at c.if-work-need.false))
 
 pub slice_bounds-copy_from_slice-end-4 : goal.slice_bounds-copy_from_slice-end-4
 slice_bounds-copy_from_slice-end-4 c =
-    let n = need_room c.args.a.now c.args.b.now c.args.sync.now c.lay_pairs-n.result (length c.lay_pairs-n.new.w) (rw c.need.ensures at c.if-work-need.false) in
+    let n = need_room c.args.rails.a.now c.args.rails.b.now c.args.rails.course.sync.now c.lay_pairs-n.result (length c.lay_pairs-n.new.w) (rw c.need.ensures at c.if-work-need.false) in
     omega (arith, length-take-le (4 * c.lay_pairs-n.result) c.lay_pairs-n.new.w (omega (arith, n)))
 
 pub copy_from_slice-requires : goal.copy_from_slice-requires
 copy_from_slice-requires c =
-    let n = need_room c.args.a.now c.args.b.now c.args.sync.now c.lay_pairs-n.result (length c.lay_pairs-n.new.w) (rw c.need.ensures at c.if-work-need.false) in
+    let n = need_room c.args.rails.a.now c.args.rails.b.now c.args.rails.course.sync.now c.lay_pairs-n.result (length c.lay_pairs-n.new.w) (rw c.need.ensures at c.if-work-need.false) in
     omega (arith, length-take-le (4 * c.lay_pairs-n.result) c.args.out.now c.if-out-n.false, length-take-le (4 * c.lay_pairs-n.result) c.lay_pairs-n.new.w (omega (arith, n)))
 
 pub overflow_mul-result : goal.overflow_mul-result
 overflow_mul-result c =
     let a = c.args in
-    let few : c.lay_pairs-n.result ≤ 65537 = omega (arith, c.if-pass-gt-MOST_PAIRS.false, c.lay_pairs-n.ensures.0, places_bound c.ends_of-ends.result (points a.sync.now) c.pass_of-pass.result) in
+    let few : c.lay_pairs-n.result ≤ 65537 = omega (arith, c.if-pass-gt-MOST_PAIRS.false, c.lay_pairs-n.ensures.0, places_bound c.args.rails.course.ends (points a.rails.course.sync.now) c.pass-pass.result) in
     omega (arith, few)
 
 pub shape_of-work : goal.shape_of-work
@@ -96,15 +97,15 @@ pub returns : goal.returns
 unfolding of_bits
 returns c =
     let a = c.args in
-    let m = pass_n a.a.now a.b.now a.sync.now a.step c.ends_of-ends.ensures c.pass_of-pass.ensures in
+    let m = pass_n a.rails.a.now a.rails.b.now a.rails.course.sync.now a.step (in_step c.args.rails.ended) c.pass-pass.ensures in
     let sizes = rw m at c.if-pass-gt-MOST_PAIRS.false in
-    let q = pass_places a.a.now a.b.now a.sync.now a.step c.ends_of-ends.ensures c.pass_of-pass.ensures in
+    let q = pass_places a.rails.a.now a.rails.b.now a.rails.course.sync.now a.step (in_step c.args.rails.ended) c.pass-pass.ensures in
     let count = c.lay_pairs-n.ensures.0 ∙ ap length q in
-    let roomy : 4 * c.lay_pairs-n.result ≤ length a.work.now = omega (arith, need_room a.a.now a.b.now a.sync.now c.lay_pairs-n.result (length a.work.now) (rw (c.need.ensures, c.lay_pairs-n.ensures.1) at c.if-work-need.false)) in
-    let told = flat (both_points (pairs (rails_of a.a.now a.b.now a.sync.now) a.step)) in
-    let laid : take (4 * c.lay_pairs-n.result) c.lay_pairs-n.new.w ≡ told = rw (pairs_stored a.a.now a.b.now a.sync.now a.step c.requires.1, ← q) (c.lay_pairs-n.ensures.2 roomy) in
-    let stored : length told ≡ 4 * c.lay_pairs-n.result = omega (arith, flat_length (both_points (pairs (rails_of a.a.now a.b.now a.sync.now) a.step)), pairs_count a.a.now a.b.now a.sync.now a.step c.requires.1, count) in
-    let m = c.need.ensures ∙ ap (need (rails_of a.a.now a.b.now a.sync.now)) count in
+    let roomy : 4 * c.lay_pairs-n.result ≤ length a.work.now = omega (arith, need_room a.rails.a.now a.rails.b.now a.rails.course.sync.now c.lay_pairs-n.result (length a.work.now) (rw (c.need.ensures, c.lay_pairs-n.ensures.1) at c.if-work-need.false)) in
+    let told = flat (both_points (pairs (rails_of a.rails.a.now a.rails.b.now a.rails.course.sync.now) a.step)) in
+    let laid : take (4 * c.lay_pairs-n.result) c.lay_pairs-n.new.w ≡ told = rw (pairs_stored a.rails.a.now a.rails.b.now a.rails.course.sync.now a.step c.requires, ← q) (c.lay_pairs-n.ensures.2 roomy) in
+    let stored : length told ≡ 4 * c.lay_pairs-n.result = omega (arith, flat_length (both_points (pairs (rails_of a.rails.a.now a.rails.b.now a.rails.course.sync.now) a.step)), pairs_count a.rails.a.now a.rails.b.now a.rails.course.sync.now a.step c.requires, count) in
+    let m = c.need.ensures ∙ ap (need (rails_of a.rails.a.now a.rails.b.now a.rails.course.sync.now)) count in
     let e = c.copy_from_slice.ensures.after ∙ laid in
-    rw (passed_done a.a.now a.b.now a.sync.now a.step c.requires.1 (length a.work.now) (length a.out.now) sizes (rw (m, c.lay_pairs-n.ensures.1) at c.if-work-need.false) (rw count at c.if-out-n.false))
-    (rw (count, pairs_count a.a.now a.b.now a.sync.now a.step c.requires.1), rw (e, stored) refl, rw c.lay_pairs-n.ensures.1 at (c.fill-2.ensures.after (λ y h. search rules)))
+    rw (passed_done a.rails.a.now a.rails.b.now a.rails.course.sync.now a.step c.requires (length a.work.now) (length a.out.now) sizes (rw (m, c.lay_pairs-n.ensures.1) at c.if-work-need.false) (rw count at c.if-out-n.false))
+    (rw (count, pairs_count a.rails.a.now a.rails.b.now a.rails.course.sync.now a.step c.requires), rw (e, stored) refl, rw c.lay_pairs-n.ensures.1 at (c.fill-2.ensures.after (λ y h. search rules)))

@@ -8,6 +8,6 @@ pub returns-then-a-lt2 : goal.returns-then-a-lt2
 unfolding few rails_of
 returns-then-a-lt2 c = rw (points_length c.args.a.now, lt-ltb _ 2 c.if-a-lt2.true)
 
-pub returns : goal.returns
+pub returns-else-a-lt2 : goal.returns-else-a-lt2
 unfolding few rails_of
-returns c = rw (points_length c.args.a.now, points_length c.args.b.now, le-ltb _ _ c.if-a-lt2.false)
+returns-else-a-lt2 c = rw (points_length c.args.a.now, points_length c.args.b.now, le-ltb _ _ c.if-a-lt2.false)

@@ -16,8 +16,8 @@ returns-then-sewn c =
     let a = c.args in
     rw c.if-sewn.true (c.put_thread.ensures.0, omega (arith, c.put_thread.ensures.1, pass_length a.s.now a.thread a.back))
 
-pub returns : goal.returns
+pub returns-else-sewn : goal.returns-else-sewn
 unfolding flat
-returns c =
+returns-else-sewn c =
     let a = c.args in
     rw c.if-sewn.false (put_none a.out.now a.k (omega (arith, c.requires)), omega arith)
