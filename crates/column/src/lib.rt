@@ -2,6 +2,7 @@
 #![tactic(auto)]
 
 ghost use Rattle.std.specs.Prelude.{◌≡◌, length};
+ghost use Rattle.refusal.specs.Sewn.{said_sewn};
 ghost use Rattle.satinrules.specs.Calls.{column_sewn, column_output, column_work};
 
 pub mod halves;
@@ -10,8 +11,8 @@ pub mod topping;
 pub mod turning;
 
 use crate::halves::sewn_column;
-use refusal::{DONE, SETTING, Sewn};
-use satin::rails::{few_corners, rails_refusal};
+use refusal::{Refusal, unless};
+use satin::rails::{accepted, few_corners};
 use satinrules::{Satin, good_satin};
 
 // A satin column between two rails: underlay, then the top.
@@ -22,25 +23,14 @@ pub fn column(
     g: Satin,
     work: &mut [f64],
     out: &mut [f64],
-) -> Sewn
-    ensures { (result ≡ column_sewn a.now b.now sync.now g (length work.old) (length out.old)) × (out.new ≡ column_output a.now b.now sync.now g (length work.old) out.old) × (work.new ≡ column_work a.now b.now sync.now g work.old (length out.old)) }
+) -> Result<u64, Refusal>
+    ensures { (said_sewn result ≡ column_sewn a.now b.now sync.now g (length work.old) (length out.old)) × (out.new ≡ column_output a.now b.now sync.now g (length work.old) out.old) × (work.new ≡ column_work a.now b.now sync.now g work.old (length out.old)) }
 {
-    let answer = rails_refusal(a, b, sync);
-    if answer != DONE {
-        return Sewn { answer, points: 0 };
-    }
-    if !good_satin(g) {
-        return Sewn {
-            answer: SETTING,
-            points: 0,
-        };
-    }
+    accepted(a, b, sync)?;
+    unless(Refusal::Setting, good_satin(g))?;
     if few_corners(a, b) {
         work.fill(0.0);
-        return Sewn {
-            answer: DONE,
-            points: 0,
-        };
+        return Ok(0);
     }
     sewn_column(a, b, sync, g, work, out)
 }

@@ -4,12 +4,11 @@ ghost use Rattle.geom.specs.Outline.{points};
 ghost use Rattle.satinrules.specs.Pairs.{total_of};
 ghost use Rattle.satinrules.specs.Column.{only_if};
 ghost use Rattle.satinrules.specs.Calls.{underlay_steps, top_steps, pass_steps, most};
-ghost use Rattle.pairing.specs.Store.{Laid};
 ghost use Rattle.column.specs.Sized.{sized_at, places_if, under_of, passes_of, most_under, most_in, TopLaid};
 
-use geom::P;
 use limits::MOST_PAIRS;
-use pairing::places::{Pass, count_places, pass_along, total};
+use pairing::Rails;
+use pairing::places::{Course, Pass, pass_along};
 use pairing::store::lay_pairs;
 use passes::top::spaced;
 use satin::underlay::runs;
@@ -33,9 +32,9 @@ pub struct Passes {
 }
 
 // Whether the pass that `step` asks for is small enough, where it is sewn. The centre's length is added up once for all.
-fn sized_if(sewn: bool, sync: &[f64], ends: P, length: f64, step: f64) -> bool
-    requires { length ≡ total_of ends (points sync.now) }
-    ensures { result ≡ sized_at ends (points sync.now) (only_if sewn (step ∷ [])) }
+fn sized_if(sewn: bool, course: Course, length: f64, step: f64) -> bool
+    requires { length ≡ total_of course.ends (points course.sync.now) }
+    ensures { result ≡ sized_at course.entry.ends (points course.entry.sync.now) (only_if sewn (step ∷ [])) }
 {
     if sewn {
         let pass = pass_along(length, step);
@@ -45,78 +44,74 @@ fn sized_if(sewn: bool, sync: &[f64], ends: P, length: f64, step: f64) -> bool
 }
 
 // Whether each pass of the underlay that is sewn is small enough.
-pub fn underlay_sized(sync: &[f64], ends: P, length: f64, g: Satin) -> bool
-    requires { length ≡ total_of ends (points sync.now) }
-    ensures { result ≡ sized_at ends (points sync.now) (underlay_steps g) }
+pub fn underlay_sized(course: Course, length: f64, g: Satin) -> bool
+    requires { length ≡ total_of course.ends (points course.sync.now) }
+    ensures { result ≡ sized_at course.entry.ends (points course.entry.sync.now) (underlay_steps g) }
 {
-    if !sized_if(runs(g), sync, ends, length, g.run_len) {
+    if !sized_if(runs(g), course, length, g.run_len) {
         return false;
     }
     let zigzag = g.underlay / 4 % 2 == 1;
-    sized_if(zigzag, sync, ends, length, Satin::ZIGZAG_UNDERLAY_SPACING)
+    sized_if(zigzag, course, length, Satin::ZIGZAG_UNDERLAY_SPACING)
 }
 
 // Whether the top is small enough.
-pub fn top_sized(sync: &[f64], ends: P, length: f64, g: Satin) -> bool
-    requires { length ≡ total_of ends (points sync.now) }
-    ensures { result ≡ sized_at ends (points sync.now) (top_steps g) }
+pub fn top_sized(course: Course, length: f64, g: Satin) -> bool
+    requires { length ≡ total_of course.ends (points course.sync.now) }
+    ensures { result ≡ sized_at course.entry.ends (points course.entry.sync.now) (top_steps g) }
 {
     let style = g.style;
-    sized_if(true, sync, ends, length, spaced(style, g.spacing))
+    sized_if(true, course, length, spaced(style, g.spacing))
 }
 
 // Whether both halves are small enough.
-pub fn column_sized(sync: &[f64], ends: P, g: Satin) -> bool
-    ensures { result ≡ sized_at ends (points sync.now) (pass_steps g) }
+pub fn column_sized(course: Course, g: Satin) -> bool
+    ensures { result ≡ sized_at course.entry.ends (points course.entry.sync.now) (pass_steps g) }
 {
-    let length = total(sync, ends);
-    if !underlay_sized(sync, ends, length, g) {
+    let length = course.total();
+    if !underlay_sized(course, length, g) {
         return false;
     }
-    top_sized(sync, ends, length, g)
+    top_sized(course, length, g)
 }
 
 // How many places a pass has; none where it isn't sewn.
-fn places_if(sewn: bool, sync: &[f64], ends: P, pass: Pass) -> usize
+fn places_if(sewn: bool, course: Course, pass: Pass) -> usize
     requires { sewn ≡ true → pass.n ≤ 65536 }
-    ensures { result ≡ places_if sewn ends (points sync.now) pass }
+    ensures { result ≡ places_if sewn course.entry.ends (points course.entry.sync.now) pass }
 {
     if sewn {
-        return count_places(sync, ends, pass) as usize;
+        return course.count(pass) as usize;
     }
     0
 }
 
 // The underlay's passes, each that is sewn with its places counted.
-pub fn underlay_passes(sync: &[f64], ends: P, length: f64, g: Satin) -> Under
-    requires { (length ≡ total_of ends (points sync.now)) × (sized_at ends (points sync.now) (underlay_steps g) ≡ true) }
-    ensures { result ≡ under_of ends (points sync.now) g }
+pub fn underlay_passes(course: Course, length: f64, g: Satin) -> Under
+    requires { (length ≡ total_of course.ends (points course.sync.now)) × (sized_at course.ends (points course.sync.now) (underlay_steps g) ≡ true) }
+    ensures { result ≡ under_of course.entry.ends (points course.entry.sync.now) g }
 {
     let run = pass_along(length, g.run_len);
-    let n = places_if(runs(g), sync, ends, run);
+    let n = places_if(runs(g), course, run);
     let zigzag = pass_along(length, Satin::ZIGZAG_UNDERLAY_SPACING);
-    let m = places_if(g.underlay / 4 % 2 == 1, sync, ends, zigzag);
+    let m = places_if(g.underlay / 4 % 2 == 1, course, zigzag);
     Under { run, n, zigzag, m }
 }
 
 // The passes of both halves. The top's pairs are laid as they are counted, as far as the working slice has room: most columns are mostly top.
 pub fn passes_of(
     work: &mut [f64],
-    rails: &[f64],
-    a: &[f64],
-    b: &[f64],
-    sync: &[f64],
-    ends: P,
+    rails: Rails,
     g: Satin,
 ) -> Passes
-    requires { Laid a.now b.now rails.now × (sized_at ends (points sync.now) (pass_steps g) ≡ true) }
-    ensures { (result ≡ passes_of ends (points sync.now) g) × (length work.new ≡ length work.old) × (4 * result.t ≤ length work.old → TopLaid a.now b.now sync.now ends result work.new) }
+    requires { sized_at rails.course.ends (points rails.course.sync.now) (pass_steps g) ≡ true }
+    ensures { (result ≡ passes_of rails.entry.course.ends (points rails.entry.course.sync.now) g) × (length work.new ≡ length work.old) × (4 * result.t ≤ length work.old → TopLaid rails.entry.a.now rails.entry.b.now rails.entry.course.sync.now rails.entry.course.ends result work.new) }
 {
     let style = g.style;
-    let length = total(sync, ends);
-    let under = underlay_passes(sync, ends, length, g);
+    let length = rails.course.total();
+    let under = underlay_passes(rails.course, length, g);
     let top = pass_along(length, spaced(style, g.spacing));
-    let t = lay_pairs(work, rails, a, b, sync, ends, top);
+    let t = lay_pairs(work, rails, top);
     Passes { under, top, t }
 }
 

@@ -9,7 +9,7 @@ underlay_sized-requires c = c.total-length.ensures
 pub returns-then-not-underlay_sized : goal.returns-then-not-underlay_sized
 returns-then-not-underlay_sized c =
     let a = c.args in
-    sym (sized_halves a.ends (points a.sync.now) a.g ∙ rw (sym c.underlay_sized.ensures ∙ c.if-not-underlay_sized.true))
+    sym (sized_halves a.course.ends (points a.course.sync.now) a.g ∙ rw (sym c.underlay_sized.ensures ∙ c.if-not-underlay_sized.true))
 
 pub top_sized-requires : goal.top_sized-requires
 top_sized-requires c = c.total-length.ensures
@@ -17,4 +17,4 @@ top_sized-requires c = c.total-length.ensures
 pub returns : goal.returns
 returns c =
     let a = c.args in
-    sym (sized_halves a.ends (points a.sync.now) a.g ∙ rw (sym c.underlay_sized.ensures ∙ c.if-not-underlay_sized.false, ← c.top_sized.ensures))
+    sym (sized_halves a.course.ends (points a.course.sync.now) a.g ∙ rw (sym c.underlay_sized.ensures ∙ c.if-not-underlay_sized.false, ← c.top_sized.ensures))

@@ -8,13 +8,13 @@ use Rattle.column.specs.SizedLaws.{top_sized, halves_sized}
 use Rattle.column.proofs.sized.passes_of.Goals as goal
 
 pub underlay_passes-under-requires : goal.underlay_passes-under-requires
-underlay_passes-under-requires c = (c.total-length.ensures, (halves_sized c.args.ends (points c.args.sync.now) c.args.g c.requires.1).0)
+underlay_passes-under-requires c = (c.total-length.ensures, (halves_sized c.args.rails.course.ends (points c.args.rails.course.sync.now) c.args.g c.requires).0)
 
 pub lay_pairs-t-requires : goal.lay_pairs-t-requires
 lay_pairs-t-requires c =
     let a = c.args in
-    let sync = points a.sync.now in
-    (c.requires.0, rw (c.pass_along-top.ensures ∙ pass_by a.ends sync _ c.total-length.ensures, c.spaced.ensures) (omega (arith, top_sized a.ends sync a.g (halves_sized a.ends sync a.g c.requires.1).1)))
+    let sync = points a.rails.course.sync.now in
+    (rw (c.pass_along-top.ensures ∙ pass_by a.rails.course.ends sync _ c.total-length.ensures, c.spaced.ensures) (omega (arith, top_sized a.rails.course.ends sync a.g (halves_sized a.rails.course.ends sync a.g c.requires).1)))
 
 pub shape_of-work : goal.shape_of-work
 shape_of-work c = c.lay_pairs-t.ensures.1
@@ -24,4 +24,4 @@ unfolding passes_of
 returns c =
     let a = c.args in
     let l = c.lay_pairs-t.ensures in
-    (rw (c.underlay_passes-under.ensures, l.0, c.pass_along-top.ensures ∙ pass_by a.ends (points a.sync.now) _ c.total-length.ensures, c.spaced.ensures), l.1, l.2)
+    (rw (c.underlay_passes-under.ensures, l.0, c.pass_along-top.ensures ∙ pass_by a.rails.course.ends (points a.rails.course.sync.now) _ c.total-length.ensures, c.spaced.ensures), l.1, l.2)

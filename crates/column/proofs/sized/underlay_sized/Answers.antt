@@ -16,8 +16,8 @@ sized_if-requires c = c.requires
 pub returns-then-not-sized_if : goal.returns-then-not-sized_if
 returns-then-not-sized_if c =
     let a = c.args in
-    let e : c.sized_if.result ≡ sized_at a.ends (points a.sync.now) (only_if (runs a.g) (a.g.run_len ∷ [])) = rw c.runs.ensures at c.sized_if.ensures in
-    sym (sized_underlay a.ends (points a.sync.now) a.g ∙ rw (sym e ∙ c.if-not-sized_if.true))
+    let e : c.sized_if.result ≡ sized_at a.course.ends (points a.course.sync.now) (only_if (runs a.g) (a.g.run_len ∷ [])) = rw c.runs.ensures at c.sized_if.ensures in
+    sym (sized_underlay a.course.ends (points a.course.sync.now) a.g ∙ rw (sym e ∙ c.if-not-sized_if.true))
 
 pub sized_if-requires-2 : goal.sized_if-requires-2
 sized_if-requires-2 c = c.requires
@@ -27,5 +27,5 @@ unfolding literal of_bits round zigzag_underlay_spacing
 returns c =
     let a = c.args in
     let e = rw c.runs.ensures at c.sized_if.ensures in
-    let f : c.sized_if-2.result ≡ sized_at a.ends (points a.sync.now) (only_if (bit a.g 4) (zigzag_underlay_spacing ∷ [])) = c.sized_if-2.ensures in
-    sym (sized_underlay a.ends (points a.sync.now) a.g ∙ rw (sym e ∙ c.if-not-sized_if.false, ← f))
+    let f : c.sized_if-2.result ≡ sized_at a.course.ends (points a.course.sync.now) (only_if (bit a.g 4) (zigzag_underlay_spacing ∷ [])) = c.sized_if-2.ensures in
+    sym (sized_underlay a.course.ends (points a.course.sync.now) a.g ∙ rw (sym e ∙ c.if-not-sized_if.false, ← f))
