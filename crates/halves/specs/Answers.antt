@@ -1,16 +1,27 @@
 -- The two halves of a column as calls of their own: who is turned away, in the order of document 01's table and for the half's own passes, and what a call leaves in each slice. Definitions only.
-use Rattle.std.specs.Prelude.{ℕ, Bool, false, cond, List, eqb, length, Float}
+use Rattle.std.specs.Prelude.{ℕ, Bool, false, cond, List, eqb, length, Result, Ok, Err, Float}
 use Rattle.refusal.specs.Refusal.{DONE, SETTING, unless, ◌then◌}
-use Rattle.refusal.specs.Sewn.{sewn, output}
-use Rattle.refusal.specs.declared.Sewn.{Sewn}
+use Rattle.refusal.specs.Refusal.{number}
+use Rattle.refusal.specs.declared.Refusal.{Refusal}
+use Rattle.refusal.specs.Sewn.{Sewn, sewn, output}
 use Rattle.geom.specs.Sewing.{flat}
 use Rattle.satinrules.specs.declared.Satin.{Satin}
 use Rattle.satinrules.specs.Settings.{good_satin}
 use Rattle.satinrules.specs.Column.{underlay, far_end, top}
 use Rattle.satinrules.specs.Calls.{rails_of, good_rails, underlay_steps, top_steps, passed, worked}
-use Rattle.halves.specs.declared.Underlaid.{Underlaid}
+use Rattle.halves.specs.declared.Underlaid as sewn_under
 
 -- ---- underlay
+
+-- what the call says: a number of the table, how many points were sewn, and whether the thread ends at the far end
+pub record Underlaid : Type 0 where
+  pub answer : ℕ
+  pub points : ℕ
+  pub far : Bool
+
+abbrev pub said_underlaid : Result sewn_under.Underlaid Refusal → Underlaid
+said_underlaid (Ok u) = record { answer = DONE; points = u.points; far = u.far }
+said_underlaid (Err e) = record { answer = number e; points = 0; far = false }
 
 -- a refusal sews nothing, and no thread ends at the far end
 abbrev pub underlaid : ℕ → ℕ → Bool → Underlaid

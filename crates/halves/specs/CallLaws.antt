@@ -4,13 +4,13 @@ use Rattle.std.proofs.Common.{◌∙◌, inl, inr}
 use borrow.Author.Tests.{ne_eqb}
 use Rattle.refusal.specs.Refusal.{DONE, SETTING}
 use Rattle.refusal.specs.Sewn.{sewn}
-use Rattle.refusal.specs.declared.Sewn.{Sewn}
+use Rattle.refusal.specs.Sewn.{Sewn}
 use Rattle.seqs.specs.Tests.{either}
 use Rattle.satinrules.specs.declared.Satin.{Satin}
 use Rattle.satinrules.specs.Settings.{good_satin}
 use Rattle.satinrules.specs.Pairs.{few}
 use Rattle.satinrules.specs.Calls.{rails_of, good_rails, passed}
-use Rattle.halves.specs.declared.Underlaid.{Underlaid}
+use Rattle.halves.specs.Answers.{Underlaid}
 use Rattle.halves.specs.Answers.{underlaid, underlay_refusal, top_refusal}
 use Rattle.halves.specs.Sewing.{underlay_passed, top_passed}
 

@@ -7,7 +7,7 @@ use Rattle.std.proofs.Math.Logic.{inl, inr}
 use Rattle.std.proofs.Math.ListN.{length, length-append}
 use Rattle.refusal.specs.Refusal.{DONE, SETTING, SIZE, WORK, unless, ◌then◌}
 use Rattle.refusal.specs.Sewn.{sewn}
-use Rattle.refusal.specs.declared.Sewn.{Sewn}
+use Rattle.refusal.specs.Sewn.{Sewn}
 use Rattle.seqs.specs.Tests.{either, clash}
 use Rattle.geom.specs.declared.point.P.{P}
 use Rattle.geom.specs.Sewing.{flat, fitted}
@@ -20,7 +20,7 @@ use Rattle.satinrules.specs.Calls.{rails_of, good_rails, underlay_steps, top_ste
 use Rattle.satinrules.specs.CallLaws.{most_left, most_right, answer_fitted, no_underlay, no_top}
 use Rattle.column.specs.Sized.{sized_at}
 use Rattle.column.specs.SizedLaws.{sized_halves, halves_sized, most_halves}
-use Rattle.halves.specs.declared.Underlaid.{Underlaid}
+use Rattle.halves.specs.Answers.{Underlaid}
 use Rattle.halves.specs.Answers.{underlaid, underlay_refusal, underlay_said, underlay_output, top_refusal, top_sewn, top_output}
 
 -- ---- an answer that is DONE went through each test

@@ -1,4 +1,6 @@
 -- `sew_top` meets its contract: what is counted up to the room is what the room is compared with. Assumes nothing.
+use Rattle.std.proofs.Common.{ℕ}
+use Rattle.refusal.specs.Refusal.{DONE}
 use mathlib.Core.Path.{refl, ap, ◌∙◌}
 use native.Mathlib.Omega.{arith}
 use lib.ListN.{length}
@@ -38,4 +40,4 @@ returns c =
     let a = c.args in
     let m = top_over a.far a.g a.t a.work.now in
     let e = c.count_top-points.ensures ∙ ap (capped _) (over_count a.g a.t a.work.now _ c.requires.2 c.put_stitches.ensures a.far) in
-    rw (is_fitted m (length a.out.now) e c.if-points-room.false) (rw (counted m (length a.out.now) e c.if-points-room.false), rw (over_path a.g a.t a.work.now _ c.requires.2 c.put_stitches.ensures a.far) at c.put_top.ensures.0, behind_size a.g a.t a.work.now _ c.requires.2 c.put_stitches.ensures)
+    rw (is_fitted m (length a.out.now) e c.if-points-room.false) (ap (λ (n : ℕ). record { answer = DONE; points = n }) (counted m (length a.out.now) e c.if-points-room.false), rw (over_path a.g a.t a.work.now _ c.requires.2 c.put_stitches.ensures a.far) at c.put_top.ensures.0, behind_size a.g a.t a.work.now _ c.requires.2 c.put_stitches.ensures)

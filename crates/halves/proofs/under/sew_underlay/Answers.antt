@@ -1,4 +1,6 @@
 -- `sew_underlay` meets its contract: what is counted is what the room is compared with. Assumes nothing.
+use Rattle.std.proofs.Common.{ℕ, ap}
+use Rattle.refusal.specs.Refusal.{DONE}
 use mathlib.Core.Path.{refl, sym, ◌∙◌}
 use native.Mathlib.Omega.{arith}
 use lib.ListN.{length}
@@ -9,22 +11,22 @@ use Rattle.halves.specs.SewingLaws.{too_many, has_room, all_fit}
 use Rattle.halves.proofs.under.sew_underlay.Goals as goal
 
 pub count_underlay-points-requires : goal.count_underlay-points-requires
-count_underlay-points-requires c = (c.requires.1.small_n, c.requires.1.small_m)
+count_underlay-points-requires c = (c.requires.small_n, c.requires.small_m)
 
 pub returns-then-points-out : goal.returns-then-points-out
 returns-then-points-out c =
     let a = c.args in
-    let e = c.count_underlay-points.ensures ∙ sym (underlay_count_lem a.g c.requires.1.run c.requires.1.zigzag) in
-    rw (too_many (underlay (rails_of a.a.now a.b.now a.sync.now) a.g) (length a.out.now) e c.if-points-out.true) (refl, refl, refl)
+    let e = c.count_underlay-points.ensures ∙ sym (underlay_count_lem a.g c.requires.run c.requires.zigzag) in
+    rw (too_many (underlay (rails_of a.rails.a.now a.rails.b.now a.rails.course.sync.now) a.g) (length a.out.now) e c.if-points-out.true) (refl, refl, refl)
 
 pub put_underlay-requires : goal.put_underlay-requires
 put_underlay-requires c =
     let a = c.args in
-    let e = c.count_underlay-points.ensures ∙ sym (underlay_count_lem a.g c.requires.1.run c.requires.1.zigzag) in
-    (c.requires.0, c.requires.1.run, c.requires.1.zigzag, omega (arith, c.requires.1.room_n), omega (arith, c.requires.1.room_m), has_room (underlay (rails_of a.a.now a.b.now a.sync.now) a.g) (length a.out.now) e c.if-points-out.false)
+    let e = c.count_underlay-points.ensures ∙ sym (underlay_count_lem a.g c.requires.run c.requires.zigzag) in
+    (c.requires.run, c.requires.zigzag, omega (arith, c.requires.room_n), omega (arith, c.requires.room_m), has_room (underlay (rails_of a.rails.a.now a.rails.b.now a.rails.course.sync.now) a.g) (length a.out.now) e c.if-points-out.false)
 
 pub returns : goal.returns
 returns c =
     let a = c.args in
-    let e = c.count_underlay-points.ensures ∙ sym (underlay_count_lem a.g c.requires.1.run c.requires.1.zigzag) in
-    rw (all_fit (underlay (rails_of a.a.now a.b.now a.sync.now) a.g) (length a.out.now) e c.if-points-out.false) (rw e, c.put_underlay.ensures.0, c.put_underlay.ensures.2)
+    let e = c.count_underlay-points.ensures ∙ sym (underlay_count_lem a.g c.requires.run c.requires.zigzag) in
+    rw (all_fit (underlay (rails_of a.rails.a.now a.rails.b.now a.rails.course.sync.now) a.g) (length a.out.now) e c.if-points-out.false) (ap (λ (n : ℕ). record { answer = DONE; points = n }) e, c.put_underlay.ensures.0, c.put_underlay.ensures.2)
