@@ -1,11 +1,7 @@
 -- What finding a point along a rail asks of its running lengths. Definitions only.
-use Rattle.std.specs.Prelude.{ℕ, suc, ◌*◌, ◌≤◌, ◌<◌, ◌≡◌, true, cond, List, [], ◌∷◌, length, drop, get_or, Float}
+use Rattle.std.specs.Prelude.{ℕ, suc, ◌*◌, ◌≤◌, ◌<◌, ◌≡◌, true, cond, List, [], ◌∷◌, length, get_or, Float}
 use Rattle.std.specs.Float.{nan}
 use Rattle.std.specs.Float.Ieee.{lt, le}
-use Rattle.numbers.specs.Num.{zero64}
-use Rattle.geom.specs.Outline.{points}
-use Rattle.geom.specs.OutlineLaws.{corner_at}
-use Rattle.satinrules.specs.Arc.{lengths_from}
 
 -- before one that is at most s, all are
 pub record Rising (cum : List Float) : Type 0 where

@@ -6,8 +6,6 @@ use Rattle.std.specs.Float.Ieee.{nan, lt, le}
 use Rattle.numbers.specs.Num.{◌⊕◌, zero64}
 use Rattle.geom.specs.declared.point.P.{P}
 use Rattle.geom.specs.Point.{dist}
-use Rattle.geom.specs.Outline.{points}
-use Rattle.geom.specs.OutlineLaws.{corner_at, points_next, points_end}
 use Rattle.satinrules.specs.Arc.{lengths_from, lengths, partition_point}
 use Rattle.arc.specs.Rail.{not_beyond}
 

@@ -22,13 +22,7 @@ use satin::underlay::{count_underlay, put_underlay};
 use satinrules::Satin;
 
 // How many points both halves have, or room + 1 where they pass the room. The top's stitches stand in the working slice from then on, behind the pairs they go over.
-pub fn count_halves(
-    work: &mut [f64],
-    rails: Rails,
-    p: Passes,
-    g: Satin,
-    room: u64,
-) -> u64
+pub fn count_halves(work: &mut [f64], rails: Rails, p: Passes, g: Satin, room: u64) -> u64
     requires { Ready rails.a.now rails.b.now rails.course.sync.now g rails.course.ends p (length work.old) × TopLaid rails.a.now rails.b.now rails.course.sync.now rails.course.ends p work.old × (room < 2 ^ 63) }
     ensures { (result ≡ capped room (length (column (rails_of rails.entry.a.now rails.entry.b.now rails.entry.course.sync.now) g))) × (length work.new ≡ length work.old) × (path_in p work.new ≡ top_path rails.entry.a.now rails.entry.b.now rails.entry.course.sync.now g) }
 {
@@ -40,13 +34,7 @@ pub fn count_halves(
 }
 
 // Both halves to the front of out. The top goes first, behind where the underlay comes to stand: its stitches stand in the working slice.
-pub fn put_halves(
-    work: &mut [f64],
-    out: &mut [f64],
-    rails: Rails,
-    p: Passes,
-    g: Satin,
-)
+pub fn put_halves(work: &mut [f64], out: &mut [f64], rails: Rails, p: Passes, g: Satin)
     requires { Ready rails.a.now rails.b.now rails.course.sync.now g rails.course.ends p (length work.old) × (path_in p work.old ≡ top_path rails.a.now rails.b.now rails.course.sync.now g) × (2 * length (column (rails_of rails.a.now rails.b.now rails.course.sync.now) g) ≤ length out.old) }
     ensures { (out.new ≡ put out.old 0 (flat (column (rails_of rails.entry.a.now rails.entry.b.now rails.entry.course.sync.now) g))) × (length work.new ≡ length work.old) }
 {
@@ -81,12 +69,7 @@ pub fn sew_halves(
 }
 
 // The column to the front of out, by the running lengths of both rails; or SIZE, WORK or ROOM and nothing.
-fn column_along(
-    rails: Rails,
-    g: Satin,
-    work: &mut [f64],
-    out: &mut [f64],
-) -> Result<u64, Refusal>
+fn column_along(rails: Rails, g: Satin, work: &mut [f64], out: &mut [f64]) -> Result<u64, Refusal>
     requires { few (rails_of rails.a.now rails.b.now rails.course.sync.now) ≡ false }
     ensures { (said_sewn result ≡ sewn (column_passed rails.entry.a.now rails.entry.b.now rails.entry.course.sync.now g (length work.old) (length out.old)) (length (column (rails_of rails.entry.a.now rails.entry.b.now rails.entry.course.sync.now) g))) × (out.new ≡ output (column_passed rails.entry.a.now rails.entry.b.now rails.entry.course.sync.now g (length work.old) (length out.old)) (flat (column (rails_of rails.entry.a.now rails.entry.b.now rails.entry.course.sync.now) g)) out.old) × (work.new ≡ worked (column_passed rails.entry.a.now rails.entry.b.now rails.entry.course.sync.now g (length work.old) (length out.old)) work.old) }
 {

@@ -99,11 +99,7 @@ pub fn underlay_passes(course: Course, length: f64, g: Satin) -> Under
 }
 
 // The passes of both halves. The top's pairs are laid as they are counted, as far as the working slice has room: most columns are mostly top.
-pub fn passes_of(
-    work: &mut [f64],
-    rails: Rails,
-    g: Satin,
-) -> Passes
+pub fn passes_of(work: &mut [f64], rails: Rails, g: Satin) -> Passes
     requires { sized_at rails.course.ends (points rails.course.sync.now) (pass_steps g) ≡ true }
     ensures { (result ≡ passes_of rails.entry.course.ends (points rails.entry.course.sync.now) g) × (length work.new ≡ length work.old) × (4 * result.t ≤ length work.old → TopLaid rails.entry.a.now rails.entry.b.now rails.entry.course.sync.now rails.entry.course.ends result work.new) }
 {

@@ -39,12 +39,7 @@ fn sew_underlay(
 }
 
 // The underlay to the front of out, by the running lengths of both rails; or SIZE, WORK or ROOM and nothing.
-fn underlay_along(
-    rails: Rails,
-    g: Satin,
-    work: &mut [f64],
-    out: &mut [f64],
-) -> Result<u64, Refusal>
+fn underlay_along(rails: Rails, g: Satin, work: &mut [f64], out: &mut [f64]) -> Result<u64, Refusal>
     requires { few (rails_of rails.a.now rails.b.now rails.course.sync.now) ≡ false }
     ensures { (said_sewn result ≡ sewn (underlay_passed rails.entry.a.now rails.entry.b.now rails.entry.course.sync.now g (length work.old) (length out.old)) (length (underlay (rails_of rails.entry.a.now rails.entry.b.now rails.entry.course.sync.now) g))) × (out.new ≡ output (underlay_passed rails.entry.a.now rails.entry.b.now rails.entry.course.sync.now g (length work.old) (length out.old)) (flat (underlay (rails_of rails.entry.a.now rails.entry.b.now rails.entry.course.sync.now) g)) out.old) × (work.new ≡ worked (underlay_passed rails.entry.a.now rails.entry.b.now rails.entry.course.sync.now g (length work.old) (length out.old)) work.old) }
 {

@@ -157,7 +157,13 @@ fn put_plain(out: &mut [f64], k: usize, line: &[f64], split: Option<f64>) -> usi
 }
 
 // What the style makes of a path, from k on; answers the place after it.
-pub fn put_styled(out: &mut [f64], k: usize, line: &[f64], split: Option<f64>, style: Style) -> usize
+pub fn put_styled(
+    out: &mut [f64],
+    k: usize,
+    line: &[f64],
+    split: Option<f64>,
+    style: Style,
+) -> usize
     requires { k + length (flat (styled split style (points line.now))) ≤ length out.old }
     ensures { (out.new ≡ put out.old k (flat (styled split style (points line.now)))) × (result ≡ k + length (flat (styled split style (points line.now)))) }
 {

@@ -1,5 +1,5 @@
 -- Working room for `pairs` and `column` by the largest n of their passes. Definitions only.
-use Rattle.std.specs.Prelude.{ℕ, ◌+◌, cond, List, [], ◌∷◌, leb, eqb, Float}
+use Rattle.std.specs.Prelude.{ℕ, ◌+◌, cond, List, [], ◌∷◌, leb, eqb, Float, Result, Ok, Err}
 use Rattle.refusal.specs.Refusal.{DONE, SETTING, SIZE, unless, ◌then◌}
 use Rattle.seqs.specs.Lists.{fold}
 use Rattle.geom.specs.declared.point.P.{P}
@@ -8,7 +8,17 @@ use Rattle.satinrules.specs.declared.Satin.{Satin}
 use Rattle.satinrules.specs.Settings.{good_satin}
 use Rattle.satinrules.specs.Pairs.{Rails, ends_of, few, count_of}
 use Rattle.satinrules.specs.Calls.{rails_of, good_rails, pass_steps, most, need}
-use Rattle.satinroom.specs.declared.Room.{Room}
+use Rattle.refusal.specs.Refusal.{number}
+use Rattle.refusal.specs.declared.Refusal.{Refusal}
+
+-- one of 1 to 5 and no room, or DONE and how many floats are enough
+pub record Room : Type 0 where
+  pub answer : ℕ
+  pub floats : ℕ
+
+abbrev pub said_room : Result ℕ Refusal → Room
+said_room (Ok n) = record { answer = DONE; floats = n }
+said_room (Err e) = record { answer = number e; floats = 0 }
 
 abbrev pub room : ℕ → ℕ → Room
 room answer floats = record { answer = answer; floats = floats }

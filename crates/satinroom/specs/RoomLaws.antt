@@ -1,7 +1,8 @@
 -- What the tests on the way make of the room. Assumes nothing.
 use Rattle.std.specs.Prelude.{ℕ, ◌≡◌, true, false, List, [], ◌∷◌, ◌++◌, Float}
 use Rattle.std.proofs.Math.Path.{ap}
-use Rattle.std.proofs.Common.{◌∙◌}
+use Rattle.std.proofs.Common.{◌∙◌, arith, max}
+use Rattle.std.proofs.lemmas.Bool.Decides.{nat_tests}
 use borrow.Author.Tests.{ne_eqb}
 use Rattle.refusal.specs.Refusal.{DONE}
 use Rattle.seqs.specs.Each.{fold_append}
@@ -13,8 +14,10 @@ use Rattle.satinrules.specs.Pairs.{ends_of, few, count_of}
 use Rattle.satinrules.specs.Column.{only_if, bit, spacing_of}
 use Rattle.satinrules.specs.Calls.{rails_of, underlay_steps, top_steps, pass_steps, most}
 use Rattle.satin.specs.Underlay.{runs}
-use Rattle.satinroom.specs.declared.Room.{Room}
-use Rattle.satinroom.specs.Room.{room, largest_from, room_for, room_after}
+use Rattle.satinroom.specs.Room.{Room, room, largest_from, room_for, room_after}
+
+pub most_max : (m n : ℕ) → max m n ≡ most m n
+most_max m n = grind (arith, nat_tests)
 
 module _ (ends : P) (sync : List P) where
   -- one pass after the other

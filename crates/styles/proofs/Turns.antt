@@ -3,15 +3,13 @@ use Prim.Native.Nat.{ℕ, ◌+◌, ◌-◌, ◌*◌, ◌≤◌, ◌<◌}
 use native.Mathlib.Omega.{arith}
 use mathlib.Core.Path.{◌≡◌, refl, ap, ◌∙◌}
 use mathlib.Core.List.{List, [], ◌∷◌, ◌++◌}
-use lib.ListN.{length, take, drop}
+use lib.ListN.{length, take}
 use lib.Ieee.{Float}
 use Rattle.seqs.specs.Front.{Front, front_from, front_at}
 use Rattle.seqs.specs.Slices.{put}
 use Rattle.seqs.specs.Put.{put_length}
 use Rattle.seqs.specs.Wrote.{put_room}
 use Rattle.geom.specs.declared.point.P.{P}
-use Rattle.geom.specs.Outline.{points}
-use Rattle.geom.specs.OutlineLaws.{corner_at}
 use Rattle.geom.specs.Sewing.{flat}
 use Rattle.geom.specs.SewingLaws.{points_room, points_put}
 use Rattle.satinrules.specs.Column.{sides_from, sides, part_end, parts_from}

@@ -1,9 +1,6 @@
 -- Parts of a path whose sides are sewn, as the code writes them. Definitions only.
-use Rattle.std.specs.Prelude.{ℕ, List, [], ◌∷◌, ◌++◌, drop, Float}
+use Rattle.std.specs.Prelude.{ℕ, List, [], ◌∷◌, ◌++◌}
 use Rattle.geom.specs.declared.point.P.{P}
-use Rattle.geom.specs.Outline.{points}
-use Rattle.geom.specs.OutlineLaws.{corner_at}
-use Rattle.satinrules.specs.Column.{sides_from}
 
 -- the points of side k from p to q, q among them
 abbrev pub side_to : (ℕ → P → P → List P) → ℕ → P → P → List P

@@ -1,7 +1,7 @@
 -- What is proved of a path whose sides are sewn: one step and the end, from a flat path's corner i on. Assumes nothing.
-use Prim.Native.Nat.{ℕ, zero, suc, ◌+◌, ◌-◌, ◌*◌, ◌/◌, ◌≤◌, ◌<◌}
+use Prim.Native.Nat.{ℕ, zero, suc, ◌+◌, ◌-◌, ◌*◌, ◌≤◌, ◌<◌}
 use native.Mathlib.Omega.{arith}
-use Rattle.std.specs.Prelude.{◌≡◌, true, false, not, cond, List, [], ◌∷◌, ◌++◌, drop, pos, T, Float}
+use Rattle.std.specs.Prelude.{◌≡◌, true, false, not, cond, List, [], ◌∷◌, ◌++◌, pos, T, Float}
 use Rattle.std.proofs.Math.Path.{refl, ap}
 use Rattle.std.proofs.Common.{sym, ◌∙◌, inl, inr, append_assoc, length-append}
 use Rattle.std.proofs.Math.ListN.{length}
@@ -11,16 +11,12 @@ use Rattle.numbers.specs.Num.{◌⊘◌, real, literal}
 use Rattle.numbers.specs.Order.{larger}
 use Rattle.numbers.specs.Whole.{ceil}
 use Rattle.numbers.specs.Laws as laws
-use Rattle.seqs.specs.Slices.{put}
-use Rattle.seqs.specs.Put.{put_then}
 use Rattle.seqs.specs.Tests.{either}
 use Rattle.geom.specs.declared.point.P.{P}
 use Rattle.geom.specs.Point.{one, plus, minus, dist, lerp}
-use Rattle.geom.specs.Outline.{points}
-use Rattle.geom.specs.OutlineLaws.{corner_at, points_next, points_end}
 use Rattle.geom.specs.Sewing.{flat}
 use Rattle.geom.specs.Steps.{steps}
-use Rattle.geom.specs.SewingLaws.{flat_length, flat_append}
+use Rattle.geom.specs.SewingLaws.{flat_length}
 use Rattle.satinrules.specs.Column.{sides_from, sides, stagger, parts_of, part_end, parts_from, split_side, bend, bends, s_side, s_stitch}
 use Rattle.styles.specs.Sides.{side_to}
 

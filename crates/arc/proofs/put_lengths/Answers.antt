@@ -1,5 +1,5 @@
 -- `put_lengths` meets its contract: a zero, and then the running lengths of the corners that the iterator has left. Assumes nothing.
-use Rattle.std.proofs.Common.{arith, rules, sym, ap, ◌∙◌, ◌≡◌, ◌+◌, ◌≤◌, ◌<◌, ◌++◌, ◌∷◌, ℕ, List, length, take}
+use Rattle.std.proofs.Common.{arith, sym, ap, ◌∙◌, ◌≡◌, ◌+◌, ◌≤◌, ◌++◌, ◌∷◌, ℕ, List, length, take}
 use Rattle.std.specs.Float.Ieee.{Float, of_bits}
 use Rattle.numbers.specs.Num.{zero64}
 use Rattle.seqs.specs.Put.{put_none}

@@ -1,6 +1,5 @@
 use Rattle.satinrules.specs.Pairs.{ends_of}
 use Rattle.satinrules.specs.Calls.{rails_of}
-use borrow.Author.Rules.{rules}
 use Rattle.satinroom.proofs.ends_of.Goals as goal
 
 pub returns : goal.returns

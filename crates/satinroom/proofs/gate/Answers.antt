@@ -1,13 +1,13 @@
-use mathlib.Core.Path.{sym, ◌∙◌}
+use Rattle.std.proofs.lemmas.Result.{err_from_is_err_and, MatchResult-weaker}
 use borrow.Author.Tests.{ne_eqb}
-use borrow.Author.Rules.{rules}
+use Rattle.refusal.specs.AnswerLaws.{number_some}
 use Rattle.satinroom.proofs.gate.Goals as goal
 
-pub returns-then-answer-ne-DONE : goal.returns-then-answer-ne-DONE
-returns-then-answer-ne-DONE c = rw (← c.rails_refusal-answer.ensures, ne_eqb _ 0 c.if-answer-ne-DONE.true)
-
-pub returns-then-good : goal.returns-then-good
-returns-then-good c = rw (sym c.rails_refusal-answer.ensures ∙ c.if-answer-ne-DONE.false, c.if-good.true)
+pub returns-in_err-accepted : goal.returns-in_err-accepted
+returns-in_err-accepted c =
+    let n = number_some c.in_err-accepted.field-0.0 in
+    let p = err_from_is_err_and c.from_residual.result c.from_residual.ensures.1 in
+    rw (p.1, p.2, c.in_err-accepted.ensures, ne_eqb _ 0 n)
 
 pub returns : goal.returns
-returns c = rw (sym c.rails_refusal-answer.ensures ∙ c.if-answer-ne-DONE.false, c.if-good.false)
+returns c = MatchResult-weaker c.unless.result c.unless.ensures (λ _ g. rw (c.in_ok-accepted.ensures, g)) (λ f g. rw (c.in_ok-accepted.ensures, g.0, g.1))

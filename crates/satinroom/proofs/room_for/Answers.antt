@@ -2,7 +2,6 @@ use native.Mathlib.Omega.{arith}
 use borrow.Author.Tests.{le-leb, lt-leb}
 use Rattle.limits.specs.Limits.{most_pairs}
 use Rattle.satinroom.specs.Room.{room_for}
-use borrow.Author.Rules.{rules}
 use Rattle.satinroom.proofs.room_for.Goals as goal
 
 pub returns-then-n-gt-MOST_PAIRS : goal.returns-then-n-gt-MOST_PAIRS

@@ -1,8 +1,7 @@
 -- `count_bent` meets its contract: the points of the sides that are left are still to be counted. Assumes nothing.
-use Rattle.std.proofs.Common.{arith, rules, sym, ap, ◌∙◌, ◌≡◌, ◌+◌, length}
+use Rattle.std.proofs.Common.{arith, sym, ap, ◌∙◌, ◌+◌, length}
 use Rattle.seqs.specs.Slices.{capped}
 use Rattle.seqs.specs.Capped.{capped_in, capped_small, capped_on, capped_still}
-use Rattle.geom.specs.Outline.{points}
 use Rattle.satinrules.specs.Column.{sides_from, s_side, s_stitch}
 use Rattle.styles.specs.SidesLaws.{sides_none, count_start, count_next, sides_over, bent_length}
 use Rattle.styles.proofs.bent.count_bent.Goals as goal

@@ -1,16 +1,13 @@
 -- `put_bent` meets its contract: the sides that the iterator has left are still to be put. Assumes nothing.
-use Rattle.std.proofs.Common.{arith, rules, sym, ap, ◌∙◌, ◌≡◌, ◌+◌, length}
-use Rattle.std.specs.Float.Ieee.{Float}
+use Rattle.std.proofs.Common.{arith, sym, ap, ◌∙◌, length}
 use Rattle.seqs.specs.Put.{put_none}
 use Rattle.seqs.specs.Front.{front_at}
 use Rattle.seqs.specs.Wrote.{put_room, put_end}
-use Rattle.geom.specs.Steps.{steps}
 use Rattle.geom.specs.Outline.{points}
 use Rattle.geom.specs.OutlineLaws.{points_length}
 use Rattle.geom.specs.Sewing.{flat}
 use Rattle.geom.specs.SewingLaws.{flat_none}
-use Rattle.polyline.specs.AlikeLaws.{root_dist}
-use Rattle.satinrules.specs.Column.{sides_from, s_side, s_stitch, split_side, split_long}
+use Rattle.satinrules.specs.Column.{sides_from, s_side, s_stitch}
 use Rattle.styles.specs.SidesLaws.{sides_none, sides_over}
 use Rattle.styles.proofs.Turns.{first_room, first_put, side_room, side_put}
 use Rattle.styles.proofs.bent.put_bent.Goals as goal

@@ -1,11 +1,11 @@
 -- `count_split` meets its contract: the points of the sides that are left are still to be counted. Assumes nothing.
-use Rattle.std.proofs.Common.{arith, rules, sym, ap, ◌∙◌, ◌≡◌, ◌+◌, length}
+use Rattle.std.proofs.Common.{arith, sym, ap, ◌∙◌, ◌≡◌, ◌+◌, length}
 use Rattle.std.specs.Float.Ieee.{Float}
 use Rattle.seqs.specs.Capped.{capped_in, capped_over}
 use Rattle.geom.specs.Steps.{steps}
 use Rattle.geom.specs.Outline.{points}
 use Rattle.polyline.specs.AlikeLaws.{root_dist}
-use Rattle.satinrules.specs.Column.{sides_from, split_side, split_long}
+use Rattle.satinrules.specs.Column.{split_side, split_long}
 use Rattle.styles.specs.SidesLaws.{sides_none, count_start, count_next, sides_over, split_length}
 use Rattle.styles.proofs.split.count_split.Goals as goal
 

@@ -1,5 +1,5 @@
 -- `put_split` meets its contract: the sides that the iterator has left are still to be put. Assumes nothing.
-use Rattle.std.proofs.Common.{arith, rules, sym, ap, ◌∙◌, ◌≡◌, ◌+◌, length}
+use Rattle.std.proofs.Common.{arith, sym, ap, ◌∙◌, length}
 use Rattle.std.specs.Float.Ieee.{Float}
 use Rattle.seqs.specs.Put.{put_none}
 use Rattle.seqs.specs.Front.{front_at}
@@ -10,7 +10,7 @@ use Rattle.geom.specs.OutlineLaws.{points_length}
 use Rattle.geom.specs.Sewing.{flat}
 use Rattle.geom.specs.SewingLaws.{flat_none}
 use Rattle.polyline.specs.AlikeLaws.{root_dist}
-use Rattle.satinrules.specs.Column.{sides_from, s_side, s_stitch, split_side, split_long}
+use Rattle.satinrules.specs.Column.{sides_from, split_side, split_long}
 use Rattle.styles.specs.SidesLaws.{sides_none, sides_over}
 use Rattle.styles.proofs.Turns.{first_room, first_put, side_room, side_put}
 use Rattle.styles.proofs.split.put_split.Goals as goal
