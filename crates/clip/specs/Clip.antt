@@ -1,6 +1,7 @@
 -- Clipping point by point: what each piece of the line adds to the points and to the ends. Definitions only.
 use Rattle.std.specs.Prelude.{ℕ, ◌+◌, Bool, true, false, List, [], ◌∷◌, ◌++◌, length, Float}
 use Rattle.geom.specs.declared.point.P.{P}
+use Rattle.outlines.specs.declared.area.Area.{Area}
 use Rattle.outlines.specs.declared.rule.FillRule.{FillRule}
 use Rattle.geom.specs.Outline.{points, rings}
 use Rattle.patterns_rules.specs.Patterns.{piece_inside, clip_inside}
@@ -8,6 +9,9 @@ use Rattle.patterns_rules.specs.Patterns.{piece_inside, clip_inside}
 -- the runs of a flat line inside flat rings
 abbrev pub clipped : List Float → List Float → List ℕ → FillRule → List (List P)
 clipped line corners ends rule = clip_inside (points line) (rings corners ends) rule
+
+abbrev pub clipped_in : List Float → Area → List (List P)
+clipped_in line a = clipped line a.outline.corners.now a.outline.ends.now a.rule
 
 -- the points that the piece from p to q adds: none where it isn't kept, its end where a run is on, both its ends where none is
 abbrev pub added : Bool → Bool → P → P → List P

@@ -4,44 +4,28 @@
 ghost use Rattle.std.specs.Prelude.{◌≡◌, ◌+◌, ◌*◌, ◌≤◌, length};
 ghost use Rattle.seqs.specs.Slices.{put};
 ghost use Rattle.refusal.specs.Refusal.{DONE};
-ghost use Rattle.geom.specs.Outline.{rings, Layout};
-ghost use Rattle.outlines.specs.Heights.{Measured};
+ghost use Rattle.geom.specs.Rings.{rings_of};
 ghost use Rattle.outlines.specs.Inside.{point_inside};
 ghost use Rattle.geom.specs.Sewing.{flat};
 ghost use Rattle.rules.specs.Calls.{sewn_points};
 ghost use Rattle.patterns_rules.specs.Patterns.{piece_inside};
-ghost use Rattle.patterns_rules.specs.Answers.{count_of, room_for, said_lines, left_points, left_ends};
-ghost use Rattle.clip.specs.Clip.{clipped, added, ended};
+ghost use Rattle.patterns_rules.specs.Answers.{count_of, left_points, left_ends, LinesSewn};
+ghost use Rattle.clip.specs.Clip.{clipped, clipped_in, added, ended};
 
-use geom::P;
-use geom::sewing::{corner, put_point};
-use outlines::FillRule;
+use geom::flat::Points;
+use geom::sewing::put_point;
+use geom::{Outline, P};
 use outlines::heights::{HEIGHTS, heights};
-use outlines::inside::{point_inside_by, segment_inside_by};
-use patterns_rules::{Count, Lines};
-use refusal::{DONE, ROOM};
+use outlines::{Area, FillRule};
+use patterns_rules::Count;
+use refusal::Refusal;
 
 // Whether the piece from p to q is kept, where `was` and `is` say whether its ends are inside.
-pub fn piece_inside(
-    corners: &[f64],
-    ends: &[usize],
-    h: &[f64],
-    rule: FillRule,
-    p: P,
-    was: bool,
-    q: P,
-    is: bool,
-) -> bool
-    requires { Measured corners.now ends.now h.now × (was ≡ point_inside (rings corners.now ends.now) rule p) × (is ≡ point_inside (rings corners.now ends.now) rule q) }
-    ensures { result ≡ piece_inside (rings corners.now ends.now) rule p q }
+pub fn piece_inside(area: Area, p: P, was: bool, q: P, is: bool) -> bool
+    requires { (was ≡ point_inside (rings_of area.outline) area.rule p) × (is ≡ point_inside (rings_of area.outline) area.rule q) }
+    ensures { result ≡ piece_inside (rings_of area.entry.outline) area.entry.rule p q }
 {
-    if was {
-        if is {
-            return segment_inside_by(corners, ends, h, rule, p, q, 2.0);
-        }
-        return false;
-    }
-    false
+    was && is && area.has_way(p, q, 2.0)
 }
 
 // How many points a piece adds, where a run is on or not.
@@ -71,33 +55,28 @@ pub fn ended(kept: bool, on: bool, n: usize) -> usize
 }
 
 // How many runs the line has inside, and how many points they have.
-fn count(line: &[f64], corners: &[f64], ends: &[usize], h: &[f64], rule: FillRule) -> Count
-    requires { Measured corners.now ends.now h.now }
-    ensures { result ≡ count_of (clipped line.now corners.now ends.now rule) }
+fn count(line: &[f64], area: Area) -> Count
+    ensures { result ≡ count_of (clipped_in line.now area.entry) }
 {
-    let n = line.len();
-    if n < 2 {
+    let mut corners = Points::of(line);
+    let Some(mut p) = corners.next() else {
         return Count {
             lines: 0,
             points: 0,
         };
-    }
-    let mut p = corner(line, 0);
-    let mut was = point_inside_by(corners, ends, h, rule, p);
+    };
+    let mut was = area.has(p);
     let mut on = false;
     let mut s = 0;
     let mut at = 0;
-    let mut i = 2;
-    while i + 1 < n {
-        let q = corner(line, i);
-        let is = point_inside_by(corners, ends, h, rule, q);
-        let kept = piece_inside(corners, ends, h, rule, p, was, q, is);
+    for q in corners {
+        let is = area.has(q);
+        let kept = piece_inside(area, p, was, q, is);
         s += ended(kept, on, at);
         at += added(kept, on, p, q);
         on = kept;
         was = is;
         p = q;
-        i += 2;
     }
     Count {
         lines: s + ended(false, on, at),
@@ -136,35 +115,24 @@ pub fn put_ended(stops: &mut [usize], s: usize, kept: bool, on: bool, n: usize)
 }
 
 // The runs to the front of out, and their ends, in points, to the front of stops; answers how many.
-fn write(
-    out: &mut [f64],
-    stops: &mut [usize],
-    line: &[f64],
-    corners: &[f64],
-    ends: &[usize],
-    h: &[f64],
-    rule: FillRule,
-) -> Count
-    requires { Measured corners.now ends.now h.now × (length (flat (sewn_points (clipped line.now corners.now ends.now rule))) ≤ length out.old) × (length (clipped line.now corners.now ends.now rule) ≤ length stops.old) }
-    ensures { (result ≡ count_of (clipped line.now corners.now ends.now rule)) × (out.new ≡ left_points DONE (clipped line.now corners.now ends.now rule) out.old) × (stops.new ≡ left_ends DONE (clipped line.now corners.now ends.now rule) stops.old) }
+fn write(out: &mut [f64], stops: &mut [usize], line: &[f64], area: Area) -> Count
+    requires { (length (flat (sewn_points (clipped_in line.now area))) ≤ length out.old) × (length (clipped_in line.now area) ≤ length stops.old) }
+    ensures { (result ≡ count_of (clipped_in line.now area.entry)) × (out.new ≡ left_points DONE (clipped_in line.now area.entry) out.old) × (stops.new ≡ left_ends DONE (clipped_in line.now area.entry) stops.old) }
 {
-    let n = line.len();
-    if n < 2 {
+    let mut corners = Points::of(line);
+    let Some(mut p) = corners.next() else {
         return Count {
             lines: 0,
             points: 0,
         };
-    }
-    let mut p = corner(line, 0);
-    let mut was = point_inside_by(corners, ends, h, rule, p);
+    };
+    let mut was = area.has(p);
     let mut on = false;
     let mut s = 0;
     let mut at = 0;
-    let mut i = 2;
-    while i + 1 < n {
-        let q = corner(line, i);
-        let is = point_inside_by(corners, ends, h, rule, q);
-        let kept = piece_inside(corners, ends, h, rule, p, was, q, is);
+    for q in corners {
+        let is = area.has(q);
+        let kept = piece_inside(area, p, was, q, is);
         put_ended(stops, s, kept, on, at);
         put_added(out, at, kept, on, p, q);
         s += ended(kept, on, at);
@@ -172,7 +140,6 @@ fn write(
         on = kept;
         was = is;
         p = q;
-        i += 2;
     }
     put_ended(stops, s, false, on, at);
     Count {
@@ -181,66 +148,34 @@ fn write(
     }
 }
 
-// The runs and their ends, or ROOM and nothing, by the outline's heights h. Each piece adds two points and one run at most: where that has room, nothing is counted first.
-fn clip_by(
-    line: &[f64],
-    corners: &[f64],
-    ends: &[usize],
-    h: &[f64],
-    rule: FillRule,
-    out: &mut [f64],
-    stops: &mut [usize],
-) -> Lines
-    requires { Measured corners.now ends.now h.now }
-    ensures { (result ≡ said_lines (room_for (clipped line.now corners.now ends.now rule) (length out.old) (length stops.old)) (clipped line.now corners.now ends.now rule)) × (out.new ≡ left_points (room_for (clipped line.now corners.now ends.now rule) (length out.old) (length stops.old)) (clipped line.now corners.now ends.now rule) out.old) × (stops.new ≡ left_ends (room_for (clipped line.now corners.now ends.now rule) (length out.old) (length stops.old)) (clipped line.now corners.now ends.now rule) stops.old) }
+// The runs and their ends, or ROOM and nothing. Each piece adds two points and one run at most: where that has room, nothing is counted first.
+fn clip_by(line: &[f64], area: Area, out: &mut [f64], stops: &mut [usize]) -> Result<Count, Refusal>
+    ensures { LinesSewn (clipped_in line.now area.entry) result out.old out.new stops.old stops.new }
 {
     let n = line.len();
-    if n <= out.len() / 2 {
-        if n / 2 <= stops.len() {
-            let c = write(out, stops, line, corners, ends, h, rule);
-            return Lines {
-                answer: DONE,
-                lines: c.lines as u64,
-                points: c.points as u64,
-            };
-        }
+    if n <= out.len() / 2 && n / 2 <= stops.len() {
+        return Ok(write(out, stops, line, area));
     }
-    let c = count(line, corners, ends, h, rule);
-    if c.points > out.len() / 2 {
-        return Lines {
-            answer: ROOM,
-            lines: 0,
-            points: 0,
-        };
-    }
-    if c.lines > stops.len() {
-        return Lines {
-            answer: ROOM,
-            lines: 0,
-            points: 0,
-        };
-    }
-    write(out, stops, line, corners, ends, h, rule);
-    Lines {
-        answer: DONE,
-        lines: c.lines as u64,
-        points: c.points as u64,
-    }
+    count(line, area).fits(out.len(), stops.len())?;
+    Ok(write(out, stops, line, area))
 }
 
 // The same for an outline alone: its heights are worked out once a line.
 pub fn clip_inside(
     line: &[f64],
-    corners: &[f64],
-    ends: &[usize],
+    outline: Outline,
     rule: FillRule,
     out: &mut [f64],
     stops: &mut [usize],
-) -> Lines
-    requires { Layout corners.now ends.now }
-    ensures { (result ≡ said_lines (room_for (clipped line.now corners.now ends.now rule) (length out.old) (length stops.old)) (clipped line.now corners.now ends.now rule)) × (out.new ≡ left_points (room_for (clipped line.now corners.now ends.now rule) (length out.old) (length stops.old)) (clipped line.now corners.now ends.now rule) out.old) × (stops.new ≡ left_ends (room_for (clipped line.now corners.now ends.now rule) (length out.old) (length stops.old)) (clipped line.now corners.now ends.now rule) stops.old) }
+) -> Result<Count, Refusal>
+    ensures { LinesSewn (clipped line.now outline.entry.corners.now outline.entry.ends.now rule) result out.old out.new stops.old stops.new }
 {
     let mut h = [0.0f64; HEIGHTS];
-    heights(corners, ends, &mut h);
-    clip_by(line, corners, ends, &h, rule, out, stops)
+    heights(outline, &mut h);
+    let area = Area {
+        outline,
+        rule,
+        heights: &h,
+    };
+    clip_by(line, area, out, stops)
 }

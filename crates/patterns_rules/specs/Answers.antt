@@ -1,6 +1,7 @@
 -- Document 01's answers of bounds, clipping and cross stitch: each call's checks in the table's order, and what it leaves in each slice. Definitions only.
-use Rattle.std.specs.Prelude.{ℕ, Bool, ◌&&◌, cond, List, leb, eqb, length, Float}
-use Rattle.refusal.specs.Refusal.{DONE, LAYOUT, NUMBER, SETTING, SIZE, ROOM, Answer, unless, answer, ◌then◌}
+use Rattle.std.specs.Prelude.{ℕ, ◌≡◌, Bool, ◌&&◌, cond, List, leb, eqb, length, Float, Result, Ok, Err}
+use Rattle.refusal.specs.declared.Refusal.{Refusal}
+use Rattle.refusal.specs.Refusal.{DONE, LAYOUT, NUMBER, SETTING, SIZE, ROOM, Answer, number, unless, answer, ◌then◌}
 use Rattle.refusal.specs.Sewn.{output}
 use Rattle.geom.specs.declared.point.P.{P}
 use Rattle.outlines.specs.declared.rule.FillRule.{FillRule}
@@ -12,7 +13,6 @@ use Rattle.rules.specs.Calls.{sewn_points, sewn_ends}
 use Rattle.patterns_rules.specs.declared.Bounds.{Bounds}
 use Rattle.patterns_rules.specs.declared.Grid.{Grid}
 use Rattle.patterns_rules.specs.declared.Count.{Count}
-use Rattle.patterns_rules.specs.declared.Lines.{Lines}
 use Rattle.patterns_rules.specs.Patterns.{bounds, clip_inside, grid_of, cross_stitch}
 
 -- ---- lines in two output slices: their points, x before y, and where each line ends, counted in points
@@ -20,6 +20,16 @@ use Rattle.patterns_rules.specs.Patterns.{bounds, clip_inside, grid_of, cross_st
 -- ROOM, unless the slices have room for both
 unfoldable pub room_for : List (List P) → ℕ → ℕ → ℕ
 room_for ls points ends = unless ROOM (leb (length (flat (sewn_points ls))) points && leb (length ls) ends)
+
+-- what a call that sews lines says: a number of the table, how many lines stand in its output, and how many points they have; none after a refusal
+pub record Lines : Type 0 where
+  pub answer : ℕ
+  pub lines : ℕ
+  pub points : ℕ
+
+abbrev pub said_count : Result Count Refusal → Lines
+said_count (Ok c) = record { answer = DONE; lines = c.lines; points = c.points }
+said_count (Err e) = record { answer = number e; lines = 0; points = 0 }
 
 -- what a call says, by its answer n: every refusal returns zero counts
 unfoldable pub said_lines : ℕ → List (List P) → Lines
@@ -35,6 +45,12 @@ left_points n ls out = output n (flat (sewn_points ls)) out
 
 unfoldable pub left_ends : ℕ → List (List P) → List ℕ → List ℕ
 left_ends n ls out = output n (sewn_ends 0 ls) out
+
+-- the lines ls, sewn where there is room for them: what is said, and what stands in the two slices afterwards
+pub record LinesSewn (ls : List (List P)) (r : Result Count Refusal) (out out' : List Float) (stops stops' : List ℕ) : Type 0 where
+  pub says : said_count r ≡ said_lines (room_for ls (length out) (length stops)) ls
+  pub points : out' ≡ left_points (room_for ls (length out) (length stops)) ls out
+  pub ends : stops' ≡ left_ends (room_for ls (length out) (length stops)) ls stops
 
 -- ---- the calls
 

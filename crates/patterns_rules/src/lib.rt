@@ -1,9 +1,13 @@
 // What bounds, clipping and cross stitch are, as definitions: document 01's rules and the source's patterns.rs in
 // specs/Patterns.antt. Here are the records that travel by value.
-
-// The least box around an outline: the source's `lo` is (left, top), its `hi` is (right, bottom).
 #![tactic(auto)]
 
+ghost use Rattle.std.specs.Prelude.{◌≡◌, ◌<◌, ◌≤◌, ◌/◌, ◌⊎◌, MatchResult};
+ghost use Rattle.refusal.specs.declared.Refusal.TheVariants.{Room};
+
+use refusal::Refusal;
+
+// The least box around an outline: the source's `lo` is (left, top), its `hi` is (right, bottom).
 #[derive(Clone, Copy)]
 pub struct Bounds {
     pub left: f64,
@@ -36,10 +40,14 @@ pub struct Count {
     pub points: usize,
 }
 
-// What a call that sews lines says: a number of the table, how many lines stand in its output, and how many points they have; none after a refusal.
-#[derive(Clone, Copy)]
-pub struct Lines {
-    pub answer: u64,
-    pub lines: u64,
-    pub points: u64,
+impl Count {
+    // ROOM, unless slices of so many numbers and so many ends have room for them.
+    pub fn fits(self, numbers: usize, ends: usize) -> Result<(), Refusal>
+        ensures { MatchResult result (λ u. (self.points ≤ numbers / 2) × (self.lines ≤ ends)) (λ e. (e ≡ Room) × ((numbers / 2 < self.points) ⊎ ((self.points ≤ numbers / 2) × (ends < self.lines)))) }
+    {
+        if self.points > numbers / 2 || self.lines > ends {
+            return Err(Refusal::Room);
+        }
+        Ok(())
+    }
 }

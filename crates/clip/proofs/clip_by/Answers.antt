@@ -1,52 +1,41 @@
 -- `clip_by` meets its contract: what is counted is what the room is compared with. Assumes nothing.
 use native.Mathlib.Omega.{arith}
-use mathlib.Core.Path.{refl}
 use lib.ListN.{length}
-use Rattle.patterns_rules.specs.Answers.{count_of, said_lines, left_points, left_ends}
-use Rattle.patterns_rules.specs.LineLaws.{no_room_points, no_room_lines, points_fit, room}
-use Rattle.clip.specs.Clip.{clipped}
+use Rattle.patterns_rules.specs.Answers.{count_of}
+use Rattle.patterns_rules.specs.LineLaws.{points_fit, lines_sewn, no_lines_sewn}
+use Rattle.std.proofs.lemmas.Result.{err_from_is_err_and}
+use Rattle.clip.specs.Clip.{clipped_in}
 use Rattle.clip.specs.ClipLaws.{clip_most}
-use borrow.Author.Rules.{rules}
 use Rattle.clip.proofs.clip_by.Goals as goal
 
-pub write-c-requires : goal.write-c-requires
-write-c-requires c = let a = c.args in
-    let m = clip_most a.line.now a.corners.now a.ends.now a.rule in
-    let ls = clipped a.line.now a.corners.now a.ends.now a.rule in
-    (c.requires, points_fit ls (length a.out.now) (length a.stops.now) (omega (arith, m.0, c.if-n-out.true)), omega (arith, m.1, c.if-n-stops.true))
+pub write-requires : goal.write-requires
+write-requires c =
+    let a = c.args in let o = a.area.outline in
+    let m = clip_most a.line.now o.corners.now o.ends.now a.area.rule in
+    (points_fit (clipped_in a.line.now a.area) (length a.out.now) (length a.stops.now) (omega (arith, m.0, c.if-n-out.true)), omega (arith, m.1, c.if-n-stops.true))
 
 pub returns-then-n-stops : goal.returns-then-n-stops
-unfolding count_of said_lines
-returns-then-n-stops c = let a = c.args in
-    let ls = clipped a.line.now a.corners.now a.ends.now a.rule in
-    let m = clip_most a.line.now a.corners.now a.ends.now a.rule in
-    rw (room ls (length a.out.now) (length a.stops.now) (omega (arith, m.0, c.if-n-out.true)) (omega (arith, m.1, c.if-n-stops.true))) (rw c.write-c.ensures.0, c.write-c.ensures.1, c.write-c.ensures.2)
+returns-then-n-stops c =
+    let a = c.args in let o = a.area.outline in
+    let m = clip_most a.line.now o.corners.now o.ends.now a.area.rule in
+    lines_sewn (clipped_in a.line.now a.area) (omega (arith, m.0, c.if-n-out.true)) (omega (arith, m.1, c.if-n-stops.true)) c.write.ensures.0 c.write.ensures.1 c.write.ensures.2
 
-pub count-c-requires : goal.count-c-requires
-count-c-requires c = c.requires
-
-pub returns-then-c-out : goal.returns-then-c-out
-unfolding count_of left_ends left_points said_lines
-returns-then-c-out c = let a = c.args in let ls = clipped a.line.now a.corners.now a.ends.now a.rule in
-    let n = rw c.count-c.ensures at c.if-c-out.true in
-    rw (no_room_points ls (length a.out.now) (length a.stops.now) n) (refl, refl, refl)
-
-pub returns-then-c-stops : goal.returns-then-c-stops
-unfolding count_of left_ends left_points said_lines
-returns-then-c-stops c = let a = c.args in let ls = clipped a.line.now a.corners.now a.ends.now a.rule in
-    let n = rw c.count-c.ensures at c.if-c-stops.true in
-    rw (no_room_lines ls (length a.out.now) (length a.stops.now) n) (refl, refl, refl)
-
-pub write-requires : goal.write-requires
+pub returns-in_err-fits : goal.returns-in_err-fits
 unfolding count_of
-write-requires c = let a = c.args in let ls = clipped a.line.now a.corners.now a.ends.now a.rule in
-    let n = rw c.count-c.ensures at c.if-c-out.false in
-    let m = rw c.count-c.ensures at c.if-c-stops.false in
-    (c.requires, points_fit ls (length a.out.now) (length a.stops.now) n, m)
+returns-in_err-fits c =
+    let p = err_from_is_err_and c.from_residual.result c.from_residual.ensures.1 in
+    let m = rw c.count.ensures at c.in_err-fits.ensures in
+    rw (p.1, p.2) (no_lines_sewn (clipped_in c.args.line.now c.args.area) m.1 m.0)
+
+pub write-requires-2 : goal.write-requires-2
+unfolding count_of
+write-requires-2 c =
+    let a = c.args in
+    let m = rw c.count.ensures at c.in_ok-fits.ensures in
+    (points_fit (clipped_in a.line.now a.area) (length a.out.now) (length a.stops.now) m.0, m.1)
 
 pub returns : goal.returns
-unfolding count_of said_lines
-returns c = let a = c.args in let ls = clipped a.line.now a.corners.now a.ends.now a.rule in
-    let n = rw c.count-c.ensures at c.if-c-out.false in
-    let m = rw c.count-c.ensures at c.if-c-stops.false in
-    rw (room ls (length a.out.now) (length a.stops.now) n m) (rw c.count-c.ensures, c.write.ensures.1, c.write.ensures.2)
+unfolding count_of
+returns c =
+    let m = rw c.count.ensures at c.in_ok-fits.ensures in
+    lines_sewn (clipped_in c.args.line.now c.args.area) m.0 m.1 c.write-2.ensures.0 c.write-2.ensures.1 c.write-2.ensures.2

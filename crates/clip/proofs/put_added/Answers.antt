@@ -7,7 +7,6 @@ use lib.ListN.{length}
 use Rattle.seqs.specs.Put.{put_none, put_then, put_length}
 use Rattle.geom.specs.Sewing.{flat}
 use Rattle.geom.specs.SewingLaws.{flat_length}
-use borrow.Author.Rules.{rules}
 use Rattle.clip.proofs.put_added.Goals as goal
 
 pub put_point-requires : goal.put_point-requires

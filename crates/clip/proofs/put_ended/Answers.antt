@@ -3,7 +3,6 @@ use native.Mathlib.Omega.{arith}
 use mathlib.Core.List.{[], ◌∷◌}
 use Rattle.seqs.specs.Front.{front_from, front_push, front_end}
 use Rattle.seqs.specs.Put.{put_none}
-use borrow.Author.Rules.{rules}
 use Rattle.clip.proofs.put_ended.Goals as goal
 
 pub returns-then-kept : goal.returns-then-kept
