@@ -5,10 +5,11 @@ ghost use Rattle.std.specs.Int.Signed.{lt_z};
 ghost use Rattle.seqs.specs.Slices.{capped};
 ghost use Rattle.geom.specs.Outline.{points};
 ghost use Rattle.limits.specs.Limits.{most_cells};
-ghost use Rattle.patterns_rules.specs.Patterns.{up_to, grid_in, x_at, y_at};
-ghost use Rattle.cross.specs.Cells.{bounds_of, Alike, Settled, stopped, Laid};
+ghost use Rattle.patterns_rules.specs.Patterns.{up_to, grid_in};
+ghost use Rattle.cross.specs.Cells.{bounds_of, Alike, Settled, stopped};
 
-use leaves::{ceil, floor, is_finite, larger, of_i64, smaller, to_i64};
+use geom::flat::Points;
+use leaves::{ceil, floor, is_finite, larger, smaller, to_i64};
 use patterns_rules::{Bounds, Grid};
 
 // What lies first, by value.
@@ -29,25 +30,21 @@ fn most(side: f64, x: f64) -> f64
 fn ordered_bounds(corners: &[f64]) -> Bounds
     ensures { result ≡ bounds_of (points corners.now) }
 {
-    let mut left = f64::from_bits(9218868437227405312);
-    let mut top = f64::from_bits(9218868437227405312);
-    let mut right = f64::from_bits(18442240474082181120);
-    let mut bottom = f64::from_bits(18442240474082181120);
-    let mut i = 0;
-    while i + 1 < corners.len() {
-        let x = corners[i];
-        let y = corners[i + 1];
-        left = smaller(left, x);
-        top = smaller(top, y);
-        right = larger(right, x);
-        bottom = larger(bottom, y);
-        i += 2;
+    let mut left = f64::INFINITY;
+    let mut top = f64::INFINITY;
+    let mut right = f64::NEG_INFINITY;
+    let mut bottom = f64::NEG_INFINITY;
+    for q in Points::of(corners) {
+        left = smaller(left, q.x);
+        top = smaller(top, q.y);
+        right = larger(right, q.x);
+        bottom = larger(bottom, q.y);
     }
     Bounds {
-        left: left,
-        top: top,
-        right: right,
-        bottom: bottom,
+        left,
+        top,
+        right,
+        bottom,
     }
 }
 
@@ -55,25 +52,21 @@ fn ordered_bounds(corners: &[f64]) -> Bounds
 fn plain_bounds(corners: &[f64]) -> Bounds
     ensures { Alike result (bounds_of (points corners.now)) }
 {
-    let mut left = f64::from_bits(9218868437227405312);
-    let mut top = f64::from_bits(9218868437227405312);
-    let mut right = f64::from_bits(18442240474082181120);
-    let mut bottom = f64::from_bits(18442240474082181120);
-    let mut i = 0;
-    while i + 1 < corners.len() {
-        let x = corners[i];
-        let y = corners[i + 1];
-        left = least(left, x);
-        top = least(top, y);
-        right = most(right, x);
-        bottom = most(bottom, y);
-        i += 2;
+    let mut left = f64::INFINITY;
+    let mut top = f64::INFINITY;
+    let mut right = f64::NEG_INFINITY;
+    let mut bottom = f64::NEG_INFINITY;
+    for q in Points::of(corners) {
+        left = least(left, q.x);
+        top = least(top, q.y);
+        right = most(right, q.x);
+        bottom = most(bottom, q.y);
     }
     Bounds {
-        left: left,
-        top: top,
-        right: right,
-        bottom: bottom,
+        left,
+        top,
+        right,
+        bottom,
     }
 }
 
@@ -81,19 +74,7 @@ fn plain_bounds(corners: &[f64]) -> Bounds
 fn settled(b: Bounds) -> bool
     ensures { result ≡ true → Settled b }
 {
-    if b.left == 0.0 {
-        return false;
-    }
-    if b.top == 0.0 {
-        return false;
-    }
-    if b.right == 0.0 {
-        return false;
-    }
-    if b.bottom == 0.0 {
-        return false;
-    }
-    true
+    b.left != 0.0 && b.top != 0.0 && b.right != 0.0 && b.bottom != 0.0
 }
 
 // With no corners, plus infinity below and minus infinity above. Plain comparisons are quick, and tell all sides but a zero.
@@ -152,34 +133,18 @@ pub fn grid_of(corners: &[f64], cell: f64) -> Grid
         let columns = how_many(left, to_i64(ceil(b.right / cell)));
         let rows = how_many(top, to_i64(ceil(b.bottom / cell)));
         return Grid {
-            cell: cell,
-            left: left,
-            columns: columns,
-            top: top,
-            rows: rows,
+            cell,
+            left,
+            columns,
+            top,
+            rows,
         };
     }
     Grid {
-        cell: cell,
-        left: left,
+        cell,
+        left,
         columns: 0,
-        top: top,
+        top,
         rows: 0,
     }
-}
-
-// The left side of column i.
-pub fn x_at(g: Grid, i: usize) -> f64
-    requires { Laid g × (i < g.columns) }
-    ensures { result ≡ x_at g i }
-{
-    of_i64(g.left + (i as i64)) * g.cell
-}
-
-// The upper side of row r.
-pub fn y_at(g: Grid, r: usize) -> f64
-    requires { Laid g × (r < g.rows) }
-    ensures { result ≡ y_at g r }
-{
-    of_i64(g.top + (r as i64)) * g.cell
 }

@@ -14,28 +14,22 @@ use Rattle.cross.proofs.counting.count.Goals as goal
 
 pub loop-r-init : goal.loop-r-init
 loop-r-init c = let a = c.args in
-    let e = rows_start (rings a.corners.now a.ends.now) a.rule a.g in
+    let e = rows_start (rings a.badge.outline.corners.now a.badge.outline.ends.now) a.badge.rule a.badge.grid in
     (search rules, search rules, rw e (omega arith), rw e (omega arith))
 
-pub y_at-requires : goal.y_at-requires
-y_at-requires c = (c.requires.1, c.loop-r-test.true)
-
-pub count_row-c-requires : goal.count_row-c-requires
-count_row-c-requires c = c.requires
-
 pub overflow_add-s : goal.overflow_add-s
-overflow_add-s c = record { fits = omega (arith, c.count_row-c.ensures.1, c.loop-r.invariant.0, c.requires.1.rows, c.loop-r-test.true) }
+overflow_add-s c = record { fits = omega (arith, c.count_row-c.ensures.1, c.loop-r.invariant.0, c.args.badge.laid.rows, c.loop-r-test.true) }
 
 pub overflow_add-at : goal.overflow_add-at
-overflow_add-at c = record { fits = omega (arith, c.count_row-c.ensures.2, c.loop-r.invariant.1, c.requires.1.rows, c.loop-r-test.true) }
+overflow_add-at c = record { fits = omega (arith, c.count_row-c.ensures.2, c.loop-r.invariant.1, c.args.badge.laid.rows, c.loop-r-test.true) }
 
 pub loop-r-preserved : goal.loop-r-preserved
 unfolding count_of
 loop-r-preserved c = let a = c.args in let l = c.loop-r in
     let e = rw c.y_at.ensures at c.count_row-c.ensures.0 in
-    let row = row_lines (rings a.corners.now a.ends.now) a.rule a.g (y_at a.g l.r) in
-    let rest = rows_in (rings a.corners.now a.ends.now) a.rule a.g (l.r + 1) in
-    let n = rows_next (rings a.corners.now a.ends.now) a.rule a.g l.r c.loop-r-test.true in
+    let row = row_lines (rings a.badge.outline.corners.now a.badge.outline.ends.now) a.badge.rule a.badge.grid (y_at a.badge.grid l.r) in
+    let rest = rows_in (rings a.badge.outline.corners.now a.badge.outline.ends.now) a.badge.rule a.badge.grid (l.r + 1) in
+    let n = rows_next (rings a.badge.outline.corners.now a.badge.outline.ends.now) a.badge.rule a.badge.grid l.r c.loop-r-test.true in
     let x = ap length n ∙ length-append row rest in
     let y = ap (λ ls. length (sewn_points ls)) n ∙ ap length (points_append row rest) ∙ length-append (sewn_points row) (sewn_points rest) in
     let u = ap (λ c. c.lines) e in
@@ -45,7 +39,7 @@ loop-r-preserved c = let a = c.args in let l = c.loop-r in
 pub returns : goal.returns
 unfolding count_of
 returns c = let a = c.args in let l = c.loop-r in
-    let n = rows_none (rings a.corners.now a.ends.now) a.rule a.g l.r (search rules) in
-    let x : l.s ≡ length (stitched (rings a.corners.now a.ends.now) a.rule a.g) = omega (arith, ap length n, l.invariant.2) in
-    let y : l.at ≡ length (sewn_points (stitched (rings a.corners.now a.ends.now) a.rule a.g)) = unfold sewn_points in omega (arith, ap (λ ls. length (sewn_points ls)) n, l.invariant.3) in
+    let n = rows_none (rings a.badge.outline.corners.now a.badge.outline.ends.now) a.badge.rule a.badge.grid l.r (search rules) in
+    let x : l.s ≡ length (stitched (rings a.badge.outline.corners.now a.badge.outline.ends.now) a.badge.rule a.badge.grid) = omega (arith, ap length n, l.invariant.2) in
+    let y : l.at ≡ length (sewn_points (stitched (rings a.badge.outline.corners.now a.badge.outline.ends.now) a.badge.rule a.badge.grid)) = unfold sewn_points in omega (arith, ap (λ ls. length (sewn_points ls)) n, l.invariant.3) in
     rw (x, y)

@@ -9,4 +9,4 @@ use Rattle.cross.specs.RowLaws.{rows_in}
 use Rattle.cross.proofs.counting.count.Given as goal
 
 abbrev pub invariant-loop-r : goal.invariant-loop-r
-invariant-loop-r l = (l.s ≤ 4096 * l.r) × (l.at ≤ 16384 * l.r) × (l.s + length (rows_in (rings l.corners l.ends) l.rule l.g l.r) ≡ length (stitched (rings l.corners l.ends) l.rule l.g)) × (l.at + length (sewn_points (rows_in (rings l.corners l.ends) l.rule l.g l.r)) ≡ length (sewn_points (stitched (rings l.corners l.ends) l.rule l.g)))
+invariant-loop-r l = (l.s ≤ 4096 * l.r) × (l.at ≤ 16384 * l.r) × (l.s + length (rows_in (rings l.badge.outline.corners.now l.badge.outline.ends.now) l.badge.rule l.badge.grid l.r) ≡ length (stitched (rings l.badge.outline.corners.now l.badge.outline.ends.now) l.badge.rule l.badge.grid)) × (l.at + length (sewn_points (rows_in (rings l.badge.outline.corners.now l.badge.outline.ends.now) l.badge.rule l.badge.grid l.r)) ≡ length (sewn_points (stitched (rings l.badge.outline.corners.now l.badge.outline.ends.now) l.badge.rule l.badge.grid)))

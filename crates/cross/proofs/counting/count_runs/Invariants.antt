@@ -8,8 +8,8 @@ use Rattle.patterns_rules.specs.Patterns.{row_lines}
 use Rattle.cross.specs.Cells.{lines_in}
 use Rattle.cross.proofs.counting.count_runs.Given as goal
 
-abbrev pub invariant-loop-i : goal.invariant-loop-i
-invariant-loop-i l = (l.i ≤ l.g.columns) × (l.s ≤ l.i) × (l.at ≤ 4 * l.i) × (l.s + length (lines_in (rings l.corners l.ends) l.rule l.g l.y l.i) ≡ length (row_lines (rings l.corners l.ends) l.rule l.g l.y)) × (l.at + length (sewn_points (lines_in (rings l.corners l.ends) l.rule l.g l.y l.i)) ≡ length (sewn_points (row_lines (rings l.corners l.ends) l.rule l.g l.y)))
+abbrev pub invariant-loop-run : goal.invariant-loop-run
+invariant-loop-run l = (l.i ≤ l.row.badge.grid.columns) × (l.s ≤ l.i) × (l.at ≤ 4 * l.i) × (l.s + length (lines_in (rings l.row.badge.outline.corners.now l.row.badge.outline.ends.now) l.row.badge.rule l.row.badge.grid l.row.y l.i) ≡ length (row_lines (rings l.row.badge.outline.corners.now l.row.badge.outline.ends.now) l.row.badge.rule l.row.badge.grid l.row.y)) × (l.at + length (sewn_points (lines_in (rings l.row.badge.outline.corners.now l.row.badge.outline.ends.now) l.row.badge.rule l.row.badge.grid l.row.y l.i)) ≡ length (sewn_points (row_lines (rings l.row.badge.outline.corners.now l.row.badge.outline.ends.now) l.row.badge.rule l.row.badge.grid l.row.y)))
 
-abbrev pub decreases-loop-i : goal.decreases-loop-i
-decreases-loop-i l = l.g.columns - l.i
+abbrev pub decreases-loop-run : goal.decreases-loop-run
+decreases-loop-run l = l.row.badge.grid.columns - l.i

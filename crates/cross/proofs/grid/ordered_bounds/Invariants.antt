@@ -1,15 +1,10 @@
--- `ordered_bounds` meets its contract: the corners from i on are still to widen it. Assumes nothing.
+-- `ordered_bounds` meets its contract: the corners that are left are still to widen it. Assumes nothing.
 use mathlib.Core.Path.{◌≡◌}
-use Prim.Native.Nat.{◌-◌, ◌≤◌}
-use lib.ListN.{length, drop}
 use Rattle.seqs.specs.Lists.{fold}
 use Rattle.geom.specs.Outline.{points}
 use Rattle.patterns_rules.specs.Patterns.{widen}
 use Rattle.cross.specs.Cells.{bounds_of}
 use Rattle.cross.proofs.grid.ordered_bounds.Given as goal
 
-abbrev pub invariant-loop-i : goal.invariant-loop-i
-invariant-loop-i l = (l.i ≤ length l.corners) × (fold widen (record { left = l.left; top = l.top; right = l.right; bottom = l.bottom }) (points (drop l.i l.corners)) ≡ bounds_of (points l.corners))
-
-abbrev pub decreases-loop-i : goal.decreases-loop-i
-decreases-loop-i l = length l.corners - l.i
+abbrev pub invariant-loop-q : goal.invariant-loop-q
+invariant-loop-q l = fold widen (record { left = l.left; top = l.top; right = l.right; bottom = l.bottom }) l.q-iterator ≡ bounds_of (points l.corners)

@@ -1,11 +1,21 @@
-use mathlib.Core.Path.{◌≡◌, sym}
-use mathlib.Core.Bool.{true, false, true≢false}
-use lib.Ieee.{of_bits}
+-- `settled` meets its contract: each side was compared with zero. Assumes nothing.
+use mathlib.Core.Path.{◌≡◌, refl, sym, ◌∙◌}
+use mathlib.Core.Bool.{Bool, true, false, not}
+use lib.Ieee.{ne, of_bits}
+use Rattle.seqs.specs.Tests.{clash}
+use Rattle.cross.proofs.grid.settled.Goals.{then-b, else-b, then-b-2, else-b-2}
 use Rattle.cross.proofs.grid.settled.Goals as goal
 
-never : {X : Type 0} → false ≡ true → X
-never e = absurd (true≢false (sym e))
+off : (b : Bool) → not b ≡ true → b ≡ false
+off true h = clash refl (sym h)
+off false h = refl
 
-pub returns : goal.returns
-unfolding of_bits
-returns c = λ _. record { left = c.if-b.false; top = c.if-b-2.false; right = c.if-b-3.false; bottom = c.if-b-4.false }
+pub returns-then-b-3 : goal.returns-then-b-3
+unfolding ne of_bits
+returns-then-b-3 c = λ h. elim c.if-b-2.branch [
+  | then-b-2 w ↦ elim c.if-b.branch [
+    | then-b v ↦ record { left = off _ v.if-b.true; top = off _ (sym v.value-is ∙ w.if-b-2.true); right = off _ (sym w.value-is ∙ c.if-b-3.true); bottom = off _ h }
+    | else-b v ↦ clash w.if-b-2.true (v.value-is ∙ v.if-b.false)
+  ]
+  | else-b-2 w ↦ clash c.if-b-3.true (w.value-is ∙ w.if-b-2.false)
+]

@@ -16,24 +16,24 @@ use borrow.Author.Rules.{rules}
 use Rattle.cross.proofs.writing.put_out.Goals as goal
 
 pub loop-t-init : goal.loop-t-init
-loop-t-init c = let a = c.args in let e : a.k + 4 * 0 ≡ a.k = omega arith in rw e (front_from a.out.now (flat (each (out_over a.g a.y) (upto a.run.first a.run.many))) a.k (omega (arith, c.requires.2)))
+loop-t-init c = let a = c.args in let e : a.k + 4 * 0 ≡ a.k = omega arith in rw e (front_from a.out.now (flat (each (out_over a.badge.grid a.y) (upto a.run.first a.run.many))) a.k (omega (arith, c.requires.1)))
 
 pub x_at-x-requires : goal.x_at-x-requires
-x_at-x-requires c = (c.requires.0, omega (arith, c.requires.1, c.loop-t-test.true))
+x_at-x-requires c = omega (arith, c.requires.0, c.loop-t-test.true)
 
 pub put_stitch-requires : goal.put_stitch-requires
 put_stitch-requires c = let a = c.args in let l = c.loop-t in
-    stitch_room a.k l.t (each (out_over a.g a.y) (upto a.run.first a.run.many)) (out_over a.g a.y (a.run.first + l.t)) (each (out_over a.g a.y) (drop (l.t + 1) (upto a.run.first a.run.many))) (out_two a.g a.y (a.run.first + l.t)) (front_at (ap flat (out_next a.g a.y a.run.first a.run.many l.t (search rules))) l.invariant) (omega (arith, c.requires.2, flat_length (each (out_over a.g a.y) (upto a.run.first a.run.many)), half_out a.g a.y (upto a.run.first a.run.many), length-reverse (upto a.run.first a.run.many), upto_length a.run.first a.run.many))
+    stitch_room a.k l.t (each (out_over a.badge.grid a.y) (upto a.run.first a.run.many)) (out_over a.badge.grid a.y (a.run.first + l.t)) (each (out_over a.badge.grid a.y) (drop (l.t + 1) (upto a.run.first a.run.many))) (out_two a.badge.grid a.y (a.run.first + l.t)) (front_at (ap flat (out_next a.badge.grid a.y a.run.first a.run.many l.t (search rules))) l.invariant) (omega (arith, c.requires.1, flat_length (each (out_over a.badge.grid a.y) (upto a.run.first a.run.many)), half_out a.badge.grid a.y (upto a.run.first a.run.many), length-reverse (upto a.run.first a.run.many), upto_length a.run.first a.run.many))
 
 pub loop-t-preserved : goal.loop-t-preserved
 unfolding out_over
 loop-t-preserved c = let a = c.args in let l = c.loop-t in
     let e = rw c.x_at-x.ensures at c.put_stitch.ensures in
-    stitch_put a.k l.t (each (out_over a.g a.y) (upto a.run.first a.run.many)) (out_over a.g a.y (a.run.first + l.t)) (each (out_over a.g a.y) (drop (l.t + 1) (upto a.run.first a.run.many))) (out_two a.g a.y (a.run.first + l.t)) (front_at (ap flat (out_next a.g a.y a.run.first a.run.many l.t (search rules))) l.invariant) (omega (arith, c.requires.2, flat_length (each (out_over a.g a.y) (upto a.run.first a.run.many)), half_out a.g a.y (upto a.run.first a.run.many), length-reverse (upto a.run.first a.run.many), upto_length a.run.first a.run.many)) _ e
+    stitch_put a.k l.t (each (out_over a.badge.grid a.y) (upto a.run.first a.run.many)) (out_over a.badge.grid a.y (a.run.first + l.t)) (each (out_over a.badge.grid a.y) (drop (l.t + 1) (upto a.run.first a.run.many))) (out_two a.badge.grid a.y (a.run.first + l.t)) (front_at (ap flat (out_next a.badge.grid a.y a.run.first a.run.many l.t (search rules))) l.invariant) (omega (arith, c.requires.1, flat_length (each (out_over a.badge.grid a.y) (upto a.run.first a.run.many)), half_out a.badge.grid a.y (upto a.run.first a.run.many), length-reverse (upto a.run.first a.run.many), upto_length a.run.first a.run.many)) _ e
 
 pub shape_of-out : goal.shape_of-out
 shape_of-out c = c.loop-t.invariant.len
 
 pub returns : goal.returns
 returns c = let a = c.args in let l = c.loop-t in
-    (put_end (flat (each (out_over a.g a.y) (upto a.run.first a.run.many))) a.k (omega (arith, c.requires.2)) (front_at (flat_none (out_none a.g a.y a.run.first a.run.many l.t (search rules))) l.invariant)).0
+    (put_end (flat (each (out_over a.badge.grid a.y) (upto a.run.first a.run.many))) a.k (omega (arith, c.requires.1)) (front_at (flat_none (out_none a.badge.grid a.y a.run.first a.run.many l.t (search rules))) l.invariant)).0

@@ -9,4 +9,4 @@ use Rattle.patterns_rules.specs.Patterns.{out_over}
 use Rattle.cross.proofs.writing.put_out.Given as goal
 
 abbrev pub invariant-loop-t : goal.invariant-loop-t
-invariant-loop-t l = Front l.initial.out l.out (l.k + 4 * l.t) (flat (each (out_over l.g l.y) (drop l.t (upto l.run.first l.run.many)))) (take l.k l.initial.out ++ flat (each (out_over l.g l.y) (upto l.run.first l.run.many)))
+invariant-loop-t l = Front l.initial.out l.out (l.k + 4 * l.t) (flat (each (out_over l.badge.grid l.y) (drop l.t (upto l.run.first l.run.many)))) (take l.k l.initial.out ++ flat (each (out_over l.badge.grid l.y) (upto l.run.first l.run.many)))

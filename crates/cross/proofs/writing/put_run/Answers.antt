@@ -14,18 +14,18 @@ use Rattle.cross.specs.RowLaws.{half_out}
 use Rattle.cross.proofs.writing.put_run.Goals as goal
 
 pub put_out-requires : goal.put_out-requires
-put_out-requires c = (c.requires.0, c.requires.1, omega (arith, c.requires.2))
+put_out-requires c = (c.requires.0, omega (arith, c.requires.1))
 
 pub put_back-requires : goal.put_back-requires
 put_back-requires c = let a = c.args in
     let cells = upto a.run.first a.run.many in
-    let e = ap length c.put_out.ensures ∙ put_length a.out.now (flat (each (out_over a.g a.y) cells)) a.k (omega (arith, c.requires.2, flat_length (each (out_over a.g a.y) cells), half_out a.g a.y cells, upto_length a.run.first a.run.many)) in
-    (c.requires.0, c.requires.1, omega (arith, e, c.requires.2))
+    let e = ap length c.put_out.ensures ∙ put_length a.out.now (flat (each (out_over a.badge.grid a.y) cells)) a.k (omega (arith, c.requires.1, flat_length (each (out_over a.badge.grid a.y) cells), half_out a.badge.grid a.y cells, upto_length a.run.first a.run.many)) in
+    (c.requires.0, omega (arith, e, c.requires.1))
 
 pub returns : goal.returns
 unfolding out_and_back
 returns c = let a = c.args in
     let cells = upto a.run.first a.run.many in
-    let x = each (out_over a.g a.y) cells in
-    let y = each (back_over a.g a.y) (reverse cells) in
-    put_then a.out.now _ _ (flat x) (flat y) a.k (a.k + 4 * a.run.many) (omega (arith, c.requires.2, flat_length x, half_out a.g a.y cells, upto_length a.run.first a.run.many)) c.put_out.ensures (omega (arith, flat_length x, half_out a.g a.y cells, upto_length a.run.first a.run.many)) c.put_back.ensures ∙ ap (put a.out.now a.k) (sym (flat_append x y))
+    let x = each (out_over a.badge.grid a.y) cells in
+    let y = each (back_over a.badge.grid a.y) (reverse cells) in
+    put_then a.out.now _ _ (flat x) (flat y) a.k (a.k + 4 * a.run.many) (omega (arith, c.requires.1, flat_length x, half_out a.badge.grid a.y cells, upto_length a.run.first a.run.many)) c.put_out.ensures (omega (arith, flat_length x, half_out a.badge.grid a.y cells, upto_length a.run.first a.run.many)) c.put_back.ensures ∙ ap (put a.out.now a.k) (sym (flat_append x y))

@@ -15,20 +15,17 @@ use Rattle.cross.proofs.writing.write.Goals as goal
 
 pub loop-r-init : goal.loop-r-init
 loop-r-init c = let a = c.args in
-    let e = rows_start (rings a.corners.now a.ends.now) a.rule a.g in
+    let e = rows_start (rings a.badge.outline.corners.now a.badge.outline.ends.now) a.badge.rule a.badge.grid in
     (rw (← e) (front_start _ _), rw (← e) (front_start _ _))
-
-pub y_at-requires : goal.y_at-requires
-y_at-requires c = (c.requires.1, c.loop-r-test.true)
 
 pub put_row-done-requires : goal.put_row-done-requires
 put_row-done-requires c = let a = c.args in let l = c.loop-r in
-    rw c.y_at.ensures (c.requires.0, c.requires.1, row_room (rings a.corners.now a.ends.now) a.rule a.g l.r c.loop-r-test.true l.done.points l.invariant.0 c.requires.2, ends_room (rings a.corners.now a.ends.now) a.rule a.g l.r c.loop-r-test.true l.done.points l.invariant.1 (omega (arith, c.requires.3, ends_length 0 (stitched (rings a.corners.now a.ends.now) a.rule a.g))))
+    rw c.y_at.ensures (row_room (rings a.badge.outline.corners.now a.badge.outline.ends.now) a.badge.rule a.badge.grid l.r c.loop-r-test.true l.done.points l.invariant.0 c.requires.0, ends_room (rings a.badge.outline.corners.now a.badge.outline.ends.now) a.badge.rule a.badge.grid l.r c.loop-r-test.true l.done.points l.invariant.1 (omega (arith, c.requires.1, ends_length 0 (stitched (rings a.badge.outline.corners.now a.badge.outline.ends.now) a.badge.rule a.badge.grid))))
 
 pub loop-r-preserved : goal.loop-r-preserved
 loop-r-preserved c = let a = c.args in let l = c.loop-r in
     let e = rw c.y_at.ensures at c.put_row-done.ensures in
-    (row_put (rings a.corners.now a.ends.now) a.rule a.g l.r c.loop-r-test.true l.done.points l.invariant.0 c.requires.2 _ e.0 _ e.3, ends_put (rings a.corners.now a.ends.now) a.rule a.g l.r c.loop-r-test.true l.done.points l.invariant.1 (omega (arith, c.requires.3, ends_length 0 (stitched (rings a.corners.now a.ends.now) a.rule a.g))) _ e.1 _ _ e.2 e.3)
+    (row_put (rings a.badge.outline.corners.now a.badge.outline.ends.now) a.badge.rule a.badge.grid l.r c.loop-r-test.true l.done.points l.invariant.0 c.requires.0 _ e.0 _ e.3, ends_put (rings a.badge.outline.corners.now a.badge.outline.ends.now) a.badge.rule a.badge.grid l.r c.loop-r-test.true l.done.points l.invariant.1 (omega (arith, c.requires.1, ends_length 0 (stitched (rings a.badge.outline.corners.now a.badge.outline.ends.now) a.badge.rule a.badge.grid))) _ e.1 _ _ e.2 e.3)
 
 pub shape_of-out : goal.shape_of-out
 shape_of-out c = c.loop-r.invariant.0.len
@@ -39,7 +36,7 @@ shape_of-stops c = c.loop-r.invariant.1.len
 pub returns : goal.returns
 unfolding flat left_ends left_points sewn_ends sewn_points
 returns c = let a = c.args in let l = c.loop-r in
-    let n = rows_none (rings a.corners.now a.ends.now) a.rule a.g l.r (search rules) in
+    let n = rows_none (rings a.badge.outline.corners.now a.badge.outline.ends.now) a.badge.rule a.badge.grid l.r (search rules) in
     let x = front_at (ap (λ ls. flat (sewn_points ls)) n) l.invariant.0 in
     let y = front_at (ap (sewn_ends l.done.points) n) l.invariant.1 in
-    (all_counted (stitched (rings a.corners.now a.ends.now) a.rule a.g) l.done x y, front_end x, front_end y)
+    (all_counted (stitched (rings a.badge.outline.corners.now a.badge.outline.ends.now) a.badge.rule a.badge.grid) l.done x y, front_end x, front_end y)

@@ -9,4 +9,4 @@ use Rattle.cross.specs.RowLaws.{rows_in}
 use Rattle.cross.proofs.writing.write.Given as goal
 
 abbrev pub invariant-loop-r : goal.invariant-loop-r
-invariant-loop-r l = Front l.initial.out l.out (2 * l.done.points) (flat (sewn_points (rows_in (rings l.corners l.ends) l.rule l.g l.r))) (flat (sewn_points (stitched (rings l.corners l.ends) l.rule l.g))) × Front l.initial.stops l.stops l.done.lines (sewn_ends l.done.points (rows_in (rings l.corners l.ends) l.rule l.g l.r)) (sewn_ends 0 (stitched (rings l.corners l.ends) l.rule l.g))
+invariant-loop-r l = Front l.initial.out l.out (2 * l.done.points) (flat (sewn_points (rows_in (rings l.badge.outline.corners.now l.badge.outline.ends.now) l.badge.rule l.badge.grid l.r))) (flat (sewn_points (stitched (rings l.badge.outline.corners.now l.badge.outline.ends.now) l.badge.rule l.badge.grid))) × Front l.initial.stops l.stops l.done.lines (sewn_ends l.done.points (rows_in (rings l.badge.outline.corners.now l.badge.outline.ends.now) l.badge.rule l.badge.grid l.r)) (sewn_ends 0 (stitched (rings l.badge.outline.corners.now l.badge.outline.ends.now) l.badge.rule l.badge.grid))

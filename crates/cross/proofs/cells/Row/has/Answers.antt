@@ -1,13 +1,10 @@
 use lib.Ieee.{of_bits}
 use Rattle.patterns_rules.specs.Patterns.{cell_inside}
-use Rattle.cross.proofs.cells.cell_inside.Goals as goal
-
-pub x_at-requires : goal.x_at-requires
-x_at-requires c = (c.requires.1, c.requires.2)
+use Rattle.cross.proofs.cells.Row.has.Goals as goal
 
 pub point_inside_at-requires : goal.point_inside_at-requires
 unfolding of_bits
-point_inside_at-requires c = (c.requires.0.layout, c.requires.0.across)
+point_inside_at-requires c = c.args.self.across
 
 pub returns : goal.returns
 unfolding cell_inside of_bits
