@@ -1,7 +1,7 @@
 -- The grid that was counted up to 4,096 is the definition's, or is refused. Assumes nothing.
 use Prim.Native.Nat.{ℕ, ◌*◌, ◌/◌, ◌≤◌, ◌<◌}
 use native.Mathlib.Omega.{arith}
-use native.Mathlib.Nat.{mul_assoc, mul_comm, mul_left_comm, mul-le-mul}
+use native.Mathlib.Nat.{mul_comm, mul_left_comm, mul-le-mul}
 use mathlib.Core.Path.{◌≡◌, ap, ◌∙◌}
 use mathlib.Core.Bool.{true, false}
 use mathlib.Core.List.{List}
@@ -52,7 +52,7 @@ module _ (g : Grid) where
 module _ (rings : List (List P)) (rule : FillRule) (g : Grid) where
   pub points_within : (room : ℕ) → g.columns * g.rows ≤ room / 8 → length (sewn_points (stitched rings rule g)) ≤ room / 2
   points_within room h =
-      let e : g.rows * (4 * g.columns) ≡ 4 * (g.columns * g.rows) = simp (mul_assoc, mul_comm, mul_left_comm) (omega arith) in
+      let e : g.rows * (4 * g.columns) ≡ 4 * (g.columns * g.rows) = simp (mul_comm, mul_left_comm) (omega arith) in
       omega (arith, points_most rings rule g, e)
 
   pub lines_within : (room : ℕ) → g.columns * g.rows ≤ room → length (stitched rings rule g) ≤ room

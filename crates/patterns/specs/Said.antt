@@ -1,9 +1,8 @@
 -- The answer of `bounds`: the number and the value of each case. Definitions only.
-use Rattle.refusal.specs.Refusal.{Answer, done, refused}
+use Rattle.std.specs.Prelude.{Result}
+use Rattle.refusal.specs.declared.Refusal.{Refusal}
+use Rattle.refusal.specs.Refusal.{Answer, said}
 use Rattle.patterns_rules.specs.declared.Bounds.{Bounds}
-use Rattle.patterns.specs.declared.Box.{Box}
-use Rattle.patterns.specs.declared.Box.TheVariants as box
 
-abbrev pub said_box : Box → Answer Bounds
-said_box (box.Around b) = done b
-said_box (box.Refused n) = refused n
+abbrev pub said_box : Result Bounds Refusal → Answer Bounds
+said_box r = said r
