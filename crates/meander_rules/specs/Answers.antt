@@ -6,8 +6,7 @@ use Rattle.geom.specs.Outline.{rings}
 use Rattle.limits.specs.Limits.{good_spacing, good_len}
 use Rattle.geometry.specs.Answers.{outline}
 use Rattle.rules.specs.Calls.{worked}
-use Rattle.patterns_rules.specs.declared.Lines.{Lines}
-use Rattle.patterns_rules.specs.Answers.{room_for, said_lines, left_points, left_ends}
+use Rattle.patterns_rules.specs.Answers.{Lines, room_for, said_lines, left_points, left_ends}
 use Rattle.meander_rules.specs.declared.Lattice.{Lattice}
 use Rattle.meander_rules.specs.Meander.{points_of, most_points, lattice_of, meander}
 

@@ -5,4 +5,4 @@ use Rattle.wander.proofs.grid.link_ok.Goals as goal
 
 pub returns : goal.returns
 unfolding link_ok of_bits of_int round
-returns c = rw (c.place.ensures, c.place-2.ensures) at c.segment_inside_by.ensures
+returns c = rw (c.place.ensures, c.place-2.ensures) at c.has_way.ensures

@@ -12,4 +12,4 @@ byte false = refl
 
 pub returns : goal.returns
 unfolding inside_at
-returns c = rw (c.from.ensures, c.point_inside_by.ensures, c.place.ensures) (byte _)
+returns c = rw (c.from.ensures, c.has.ensures, c.place.ensures) (byte _)
