@@ -1,17 +1,15 @@
 // The pen that clips a line point by point, and what it leaves in two slices: where there is room it writes, and it counts always.
 ghost use Rattle.std.specs.Prelude.{◌≡◌, false, ◌*◌, length};
 ghost use Rattle.seqs.specs.Slices.{Wrote};
-ghost use Rattle.geom.specs.Outline.{rings};
+ghost use Rattle.geom.specs.Rings.{rings_of};
 ghost use Rattle.geom.specs.Sewing.{flat};
-ghost use Rattle.outlines.specs.Heights.{Measured};
 ghost use Rattle.outlines.specs.Inside.{point_inside};
 ghost use Rattle.clip.specs.Clip.{added, ended};
 ghost use Rattle.trail.specs.Trail.{held, begin, on_to, finish, Sewed};
 
 use clip::{added, ended, piece_inside, put_added, put_ended};
 use geom::P;
-use outlines::FillRule;
-use outlines::inside::point_inside_by;
+use outlines::Area;
 
 // How far a line is clipped: the last point, whether it is inside, whether a run is on; and the runs and points of all lines so far, two counts that stop at the largest number.
 #[derive(Clone, Copy)]
@@ -48,37 +46,27 @@ fn end(stops: &mut [usize], s: usize, kept: bool, on: bool, n: usize) -> usize
 }
 
 // A line begins at p.
-pub fn begin(corners: &[f64], ends: &[usize], h: &[f64], rule: FillRule, p: P, s: Pen) -> Pen
-    requires { Measured corners.now ends.now h.now }
-    ensures { result ≡ begin (rings corners.now ends.now) rule p s }
+pub fn begin(area: Area, p: P, s: Pen) -> Pen
+    ensures { result ≡ begin (rings_of area.entry.outline) area.entry.rule p s }
 {
     Pen {
         at: p,
-        inside: point_inside_by(corners, ends, h, rule, p),
+        inside: area.has(p),
         on: false,
         ..s
     }
 }
 
 // It goes on to q.
-pub fn on_to(
-    out: &mut [f64],
-    stops: &mut [usize],
-    corners: &[f64],
-    ends: &[usize],
-    h: &[f64],
-    rule: FillRule,
-    q: P,
-    s: Pen,
-) -> Pen
-    requires { Measured corners.now ends.now h.now × (s.inside ≡ point_inside (rings corners.now ends.now) rule s.at) }
-    ensures { Sewed (on_to (rings corners.now ends.now) rule q s) s result out.old out.new stops.old stops.new }
+pub fn on_to(out: &mut [f64], stops: &mut [usize], area: Area, q: P, s: Pen) -> Pen
+    requires { s.inside ≡ point_inside (rings_of area.outline) area.rule s.at }
+    ensures { Sewed (on_to (rings_of area.entry.outline) area.entry.rule q s) s result out.old out.new stops.old stops.new }
 {
     let p = s.at;
     let on = s.on;
     let n = s.points;
-    let is = point_inside_by(corners, ends, h, rule, q);
-    let kept = piece_inside(corners, ends, h, rule, p, s.inside, q, is);
+    let is = area.has(q);
+    let kept = piece_inside(area, p, s.inside, q, is);
     let lines = end(stops, s.lines, kept, on, n);
     let points = add(out, n, kept, on, p, q);
     Pen {

@@ -7,7 +7,7 @@ use lib.ListN.{length, get_or, take, drop, length-drop}
 use Rattle.std.proofs.lemmas.List.{get_or-take, length-take}
 use Rattle.std.proofs.lemmas.Grind.{get_or_after_one}
 use Rattle.geom.specs.Point.{lerp}
-use Rattle.geom.specs.Outline.{rings}
+use Rattle.geom.specs.Rings.{rings_of}
 use Rattle.meander_rules.specs.Meander.{place}
 use Rattle.trail.specs.Trail.{on_to, ahead}
 use Rattle.trail.specs.Parts.{going_start}
@@ -22,33 +22,27 @@ later p i h = let e : 1 + i ≡ i + 1 = omega arith in get_or-take (length p - 1
 size : (p : List ℕ) → length (take (length p - 1) (drop 1 p)) ≡ length p - 1
 size p = omega (arith, length-take (length p - 1) (drop 1 p), length-drop 1 p)
 
-pub place-a-requires : goal.place-a-requires
-place-a-requires c = c.requires.1
-
 pub loop-k-init : goal.loop-k-init
 loop-k-init c =
     let a = c.args in
-    let p = place a.g (get_or a.path.now 0 0) in
-    (rw c.place-a.ensures (going_start (on_to (rings a.corners.now a.ends.now) a.rule) a.s a.out.now a.stops.now (ahead a.g a.len a.path.now p p 1) (search rules) (search rules) (omega (arith, c.well_formed)) (omega (arith, c.well_formed))), c.requires.3)
-
-pub place-b-requires : goal.place-b-requires
-place-b-requires c = c.requires.1
+    let p = place a.ground.grid (get_or a.path.now 0 0) in
+    (rw c.place-a.ensures (going_start (on_to (rings_of a.ground.area.outline) a.ground.area.rule) a.s a.out.now a.stops.now (ahead a.ground.grid a.len a.path.now p p 1) (search rules) (search rules) (omega (arith, c.well_formed)) (omega (arith, c.well_formed))), c.requires.1)
 
 pub over_piece-half-requires : goal.over_piece-half-requires
-over_piece-half-requires c = (c.requires.0, c.loop-k.invariant.1)
+over_piece-half-requires c = c.loop-k.invariant.1
 
 pub over_piece-pen-requires : goal.over_piece-pen-requires
-over_piece-pen-requires c = (c.requires.0, c.over_piece-half.ensures.1)
+over_piece-pen-requires c = c.over_piece-half.ensures.1
 
 pub loop-k-preserved : goal.loop-k-preserved
 loop-k-preserved c =
     let a = c.args in
     let l = c.loop-k in
     let b = c.place-b.result in
-    (turn_on (rings a.corners.now a.ends.now) a.rule a.g a.len a.path.now l.c l.a (l.k-index + 1) l.invariant.0 (omega (arith, size a.path.now, c.loop-k-test.true)) (c.place-b.ensures ∙ ap (place a.g) (later a.path.now l.k-index (omega (arith, size a.path.now, c.loop-k-test.true)))) (c.lerp-l.ensures ∙ ap (lerp l.a b) (sym three_tenths)) (c.lerp-r.ensures ∙ ap (lerp l.a b) (sym seven_tenths)) c.over_piece-half.ensures.0 c.over_piece-pen.ensures.0, c.over_piece-pen.ensures.1)
+    (turn_on (rings_of a.ground.area.outline) a.ground.area.rule a.ground.grid a.len a.path.now l.c l.a (l.k-index + 1) l.invariant.0 (omega (arith, size a.path.now, c.loop-k-test.true)) (c.place-b.ensures ∙ ap (place a.ground.grid) (later a.path.now l.k-index (omega (arith, size a.path.now, c.loop-k-test.true)))) (c.lerp-l.ensures ∙ ap (lerp l.a b) (sym three_tenths)) (c.lerp-r.ensures ∙ ap (lerp l.a b) (sym seven_tenths)) c.over_piece-half.ensures.0 c.over_piece-pen.ensures.0, c.over_piece-pen.ensures.1)
 
 pub over_piece-requires : goal.over_piece-requires
-over_piece-requires c = (c.requires.0, c.loop-k.invariant.1)
+over_piece-requires c = c.loop-k.invariant.1
 
 pub shape_of-out : goal.shape_of-out
 shape_of-out c = c.over_piece.ensures.0.points.size ∙ c.loop-k.invariant.0.sewed.points.size
@@ -60,4 +54,4 @@ pub returns : goal.returns
 returns c =
     let a = c.args in
     let l = c.loop-k in
-    turn_last (rings a.corners.now a.ends.now) a.rule a.g a.len a.path.now l.c l.a (l.k-index + 1) l.invariant.0 (omega (arith, size a.path.now, c.loop-k-test.false, c.requires.2)) c.over_piece.ensures.0
+    turn_last (rings_of a.ground.area.outline) a.ground.area.rule a.ground.grid a.len a.path.now l.c l.a (l.k-index + 1) l.invariant.0 (omega (arith, size a.path.now, c.loop-k-test.false, c.requires.0)) c.over_piece.ensures.0

@@ -4,4 +4,4 @@ use Rattle.trail.proofs.pen.begin.Goals as goal
 
 pub returns : goal.returns
 unfolding begin
-returns c = rw c.point_inside_by.ensures
+returns c = rw c.has.ensures
