@@ -31,15 +31,15 @@ pub fn lattice_of(corners: &[f64], spacing: f64) -> Lattice
         return Lattice {
             left: b.left,
             top: b.top,
-            spacing: spacing,
-            columns: columns,
-            rows: rows,
+            spacing,
+            columns,
+            rows,
         };
     }
     Lattice {
         left: b.left,
         top: b.top,
-        spacing: spacing,
+        spacing,
         columns: 0,
         rows: 0,
     }

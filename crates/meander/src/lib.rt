@@ -1,28 +1,19 @@
 // Request [9]'s call: a wandering line for backgrounds. The first check that applies answers, and a refusal writes nothing.
-#![tactic(auto)]
+#![tactic(auto, unfolding(meander_rules::specs::Answers::meander_refusal, meander_rules::specs::Answers::meander_said, meander_rules::specs::Answers::meander_points, meander_rules::specs::Answers::meander_ends, meander_rules::specs::Answers::meander_wholes, patterns_rules::specs::Answers::said_lines, patterns_rules::specs::Answers::left_points, patterns_rules::specs::Answers::left_ends))]
 
 ghost use Rattle.std.specs.Prelude.{◌≡◌, length};
+ghost use Rattle.patterns_rules.specs.Answers.{said_count};
 ghost use Rattle.meander_rules.specs.Answers.{meander_said, meander_points, meander_ends, meander_wholes};
 
 mod grid;
 mod sewing;
 
 use grid::lattice_of;
-use limits::{good_len, good_numbers, good_outline, good_spacing};
+use limits::{good_len, good_numbers, good_spacing, outline};
 use outlines::FillRule;
-use patterns_rules::Lines;
-use refusal::{LAYOUT, NUMBER, SETTING};
+use patterns_rules::Count;
+use refusal::{Refusal, unless};
 use sewing::on_lattice;
-
-fn refused(answer: u64) -> Lines
-    ensures { result ≡ record { answer = answer; lines = 0; points = 0 } }
-{
-    Lines {
-        answer: answer,
-        lines: 0,
-        points: 0,
-    }
-}
 
 // Lines that wander over the outline, through every grid point inside that they can reach: their points to `out`, x before y, and where each ends, in points, to `stops`.
 pub fn meander(
@@ -35,21 +26,13 @@ pub fn meander(
     out: &mut [f64],
     stops: &mut [usize],
     wholes: &mut [usize],
-) -> Lines
-    ensures { (result ≡ meander_said corners.now ends.now rule spacing len seed (length out.old) (length stops.old) (length wholes.old)) × (out.new ≡ meander_points corners.now ends.now rule spacing len seed out.old stops.old wholes.old) × (stops.new ≡ meander_ends corners.now ends.now rule spacing len seed out.old stops.old wholes.old) × (wholes.new ≡ meander_wholes corners.now ends.now rule spacing len seed out.old stops.old wholes.old) }
+) -> Result<Count, Refusal>
+    ensures { (said_count result ≡ meander_said corners.now ends.now rule spacing len seed (length out.old) (length stops.old) (length wholes.old)) × (out.new ≡ meander_points corners.now ends.now rule spacing len seed out.old stops.old wholes.old) × (stops.new ≡ meander_ends corners.now ends.now rule spacing len seed out.old stops.old wholes.old) × (wholes.new ≡ meander_wholes corners.now ends.now rule spacing len seed out.old stops.old wholes.old) }
 {
-    if !good_outline(corners, ends) {
-        return refused(LAYOUT);
-    }
-    if !good_numbers(corners) {
-        return refused(NUMBER);
-    }
-    if !good_spacing(spacing) {
-        return refused(SETTING);
-    }
-    if !good_len(len) {
-        return refused(SETTING);
-    }
+    let o = outline(corners, ends)?;
+    unless(Refusal::Number, good_numbers(corners))?;
+    unless(Refusal::Setting, good_spacing(spacing))?;
+    unless(Refusal::Setting, good_len(len))?;
     let g = lattice_of(corners, spacing);
-    on_lattice(corners, ends, rule, g, len, seed, out, stops, wholes)
+    on_lattice(o, rule, g, len, seed, out, stops, wholes)
 }
