@@ -17,7 +17,7 @@ use Rattle.rules.specs.CallLaws.{ends_length}
 use Rattle.patterns_rules.specs.Answers.{count_of}
 use Rattle.patterns_rules.specs.Patterns.{piece_inside}
 use Rattle.clip.specs.Clip.{added, ended, points_from, ends_from}
-use Rattle.clip.specs.ClipLaws.{points_step, ends_step}
+use Rattle.clip.specs.LineLaws.{points_piece, ends_piece}
 
 -- the piece from p to q is next, and is kept or not
 module _ (rings : List (List P)) (rule : FillRule) (on : Bool) (p q : P) (rest : List P) {k : Bool} (t : k ≡ piece_inside rings rule p q) (at : ℕ) where
@@ -27,7 +27,7 @@ module _ (rings : List (List P)) (rule : FillRule) (on : Bool) (p q : P) (rest :
 
     up : Front d₀ d (2 * at) (flat (added k on p q) ++ flat later) whole
     unfolding later
-    up = front_at (ap flat (points_step rings rule on p q rest t) ∙ flat_append (added k on p q) later) f
+    up = front_at (ap flat (points_piece rings rule on p q rest t) ∙ flat_append (added k on p q) later) f
 
     pub added_room : 2 * at + length (flat (added k on p q)) ≤ length d
     added_room = front_room_block (flat (added k on p q)) (flat later) up fits
@@ -44,7 +44,7 @@ module _ (rings : List (List P)) (rule : FillRule) (on : Bool) (p q : P) (rest :
 
     next : Front d₀ d s (ended k on at ++ others) whole
     unfolding others
-    next = front_at (ends_step rings rule on p q rest t at) f
+    next = front_at (ends_piece rings rule on p q rest t at) f
 
     pub ended_room : s + length (ended k on at) ≤ length d
     ended_room = front_room_block (ended k on at) others next fits

@@ -1,15 +1,17 @@
 -- Point by point gives the points and the ends of the definition's runs. Assumes nothing.
-use Rattle.std.specs.Prelude.{ℕ, ◌+◌, ◌*◌, ◌/◌, ◌≤◌, ◌≡◌, Bool, cond, Float}
+use Rattle.std.specs.Prelude.{ℕ, ◌+◌, ◌*◌, ◌/◌, ◌≤◌, ◌<◌, ◌≡◌, Bool, cond, ltb, drop, Float}
 use native.Mathlib.Omega.{arith}
 use Rattle.std.proofs.Math.Path.{refl, ap}
-use Rattle.std.proofs.Common.{sym, ◌∙◌, le-ltb}
+use Rattle.std.proofs.Common.{sym, ◌∙◌, length-drop, le-ltb, ltb-true, ltb-false}
 use Rattle.std.proofs.Math.Bool.{true, false}
+use Rattle.std.proofs.Math.Logic.{inl, inr}
 use mathlib.Core.List.{List, [], ◌∷◌, ◌++◌, append_assoc}
 use Rattle.std.proofs.Math.ListN.{length, length-append}
+use Rattle.seqs.specs.Tests.{either}
 use Rattle.geom.specs.declared.point.P.{P}
 use Rattle.outlines.specs.declared.rule.FillRule.{FillRule}
 use Rattle.geom.specs.Outline.{points, rings}
-use Rattle.geom.specs.OutlineLaws.{points_length}
+use Rattle.geom.specs.OutlineLaws.{corner_at, points_length, points_next, points_end}
 use Rattle.rules.specs.Calls.{sewn_points, sewn_ends}
 use Rattle.rules.specs.CallLaws.{ends_length}
 use Rattle.patterns_rules.specs.Patterns.{piece_inside, closed, opened, runs_from, clip_inside}
@@ -100,46 +102,55 @@ module _ (rings : List (List P)) (rule : FillRule) where
       let m = n + length (added k on p q) in
       omega (arith, length-append (ended k on n) (ends_from rings rule k m q line), ended_few k on n, ends_few k m q line)
 
--- ---- a line of at least one point, p first
+-- ---- the line as a flat list
 
-module _ (rings : List (List P)) (rule : FillRule) (p : P) (rest : List P) where
-  pub clip_points_lem : sewn_points (clip_inside (p ∷ rest) rings rule) ≡ points_from rings rule false p rest
+module _ (l : List Float) (corners : List Float) (ends : List ℕ) (rule : FillRule) where
+  pub clip_none : length l < 2 → clipped l corners ends rule ≡ []
   unfolding clip_inside
-  clip_points_lem = points_are rings rule false [] refl p rest
+  clip_none h = rw (points_end l 0 (omega arith))
 
-  pub clip_ends_lem : sewn_ends 0 (clip_inside (p ∷ rest) rings rule) ≡ ends_from rings rule false 0 p rest
-  unfolding clip_inside
-  clip_ends_lem = ends_are rings rule false [] refl 0 p rest
+  module _ (h : 1 < length l) where
+    start : clipped l corners ends rule ≡ runs_from (rings corners ends) rule [] (corner_at l 0) (points (drop 2 l))
+    unfolding clip_inside
+    start = rw (points_next l 0 h)
 
-  pub clip_lines : length (clip_inside (p ∷ rest) rings rule) ≡ length (ends_from rings rule false 0 p rest)
-  clip_lines = sym (ends_length 0 (clip_inside (p ∷ rest) rings rule)) ∙ ap length clip_ends_lem
+    pub clip_points_lem : sewn_points (clipped l corners ends rule) ≡ points_from (rings corners ends) rule false (corner_at l 0) (points (drop 2 l))
+    clip_points_lem = ap sewn_points start ∙ points_are (rings corners ends) rule false [] refl (corner_at l 0) (points (drop 2 l))
 
--- so a line of n points has 2 n points and n runs inside at most
-few : (rings : List (List P)) (rule : FillRule) (line : List P) → (length (sewn_points (clip_inside line rings rule)) ≤ 2 * length line) × (length (clip_inside line rings rule) ≤ length line)
-unfolding clip_inside sewn_points
-few rings rule [] = (omega arith, omega arith)
-few rings rule (p ∷ rest) =
-    (omega (arith, ap length (clip_points_lem rings rule p rest), points_few rings rule false p rest), omega (arith, clip_lines rings rule p rest, ends_few rings rule false 0 p rest))
+    pub clip_ends_lem : sewn_ends 0 (clipped l corners ends rule) ≡ ends_from (rings corners ends) rule false 0 (corner_at l 0) (points (drop 2 l))
+    clip_ends_lem = ap (sewn_ends 0) start ∙ ends_are (rings corners ends) rule false [] refl 0 (corner_at l 0) (points (drop 2 l))
 
-pub clip_most : (l : List Float) (corners : List Float) (ends : List ℕ) (rule : FillRule) → (length (sewn_points (clipped l corners ends rule)) ≤ length l) × (length (clipped l corners ends rule) ≤ length l / 2)
-clip_most l corners ends rule = let k = few (rings corners ends) rule (points l) in (omega (arith, k.0, points_length l), omega (arith, k.1, points_length l))
+    pub clip_lines : length (clipped l corners ends rule) ≡ length (ends_from (rings corners ends) rule false 0 (corner_at l 0) (points (drop 2 l)))
+    clip_lines = sym (ends_length 0 (clipped l corners ends rule)) ∙ ap length clip_ends_lem
 
--- ---- the piece from p to q is next, and is kept or not; or none is left
+    -- so a line of n numbers has n points and n / 2 runs inside at most
+    pub clip_few : (length (sewn_points (clipped l corners ends rule)) ≤ length l) × (length (clipped l corners ends rule) ≤ length l / 2)
+    clip_few =
+        let rest = points (drop 2 l) in
+        let n = points_length (drop 2 l) in
+        (omega (arith, ap length clip_points_lem, points_few (rings corners ends) rule false (corner_at l 0) rest, n, length-drop 2 l), omega (arith, clip_lines, ends_few (rings corners ends) rule false 0 (corner_at l 0) rest, n, length-drop 2 l))
 
-module _ (rings : List (List P)) (rule : FillRule) (on : Bool) (p : P) where
-  module _ (q : P) (rest : List P) {k : Bool} (t : k ≡ piece_inside rings rule p q) where
-    pub points_step : points_from rings rule on p (q ∷ rest) ≡ added k on p q ++ points_from rings rule k q rest
+  pub clip_most : (length (sewn_points (clipped l corners ends rule)) ≤ length l) × (length (clipped l corners ends rule) ≤ length l / 2)
+  unfolding sewn_points
+  clip_most = elim (either (ltb (length l) 2)) [
+    | inl e ↦ rw (clip_none (ltb-true (length l) 2 e)) (omega arith, omega arith)
+    | inr e ↦ clip_few (ltb-false (length l) 2 e)
+  ]
+
+  module _ (on : Bool) (p : P) (i : ℕ) where
+    module _ (h : i + 1 < length l) {k : Bool} {q : P} (e : q ≡ corner_at l i) (t : k ≡ piece_inside (rings corners ends) rule p q) where
+      pub points_step : points_from (rings corners ends) rule on p (points (drop i l)) ≡ added k on p q ++ points_from (rings corners ends) rule k q (points (drop (i + 2) l))
+      unfolding points_from
+      points_step = rw (points_next l i h, ← e, ← t)
+
+      pub ends_step : (n : ℕ) → ends_from (rings corners ends) rule on n p (points (drop i l)) ≡ ended k on n ++ ends_from (rings corners ends) rule k (n + length (added k on p q)) q (points (drop (i + 2) l))
+      unfolding ends_from
+      ends_step n = rw (points_next l i h, ← e, ← t)
+
+    pub points_stop : length l ≤ i + 1 → points_from (rings corners ends) rule on p (points (drop i l)) ≡ []
     unfolding points_from
-    points_step = rw t
+    points_stop h = rw (points_end l i h)
 
-    pub ends_step : (n : ℕ) → ends_from rings rule on n p (q ∷ rest) ≡ ended k on n ++ ends_from rings rule k (n + length (added k on p q)) q rest
+    pub ends_stop : (n : ℕ) → length l ≤ i + 1 → ends_from (rings corners ends) rule on n p (points (drop i l)) ≡ ended false on n
     unfolding ends_from
-    ends_step n = rw t
-
-  pub points_stop : points_from rings rule on p [] ≡ []
-  unfolding points_from
-  points_stop = refl
-
-  pub ends_stop : (n : ℕ) → ends_from rings rule on n p [] ≡ ended false on n
-  unfolding ends_from
-  ends_stop n = refl
+    ends_stop n h = rw (points_end l i h)

@@ -20,8 +20,9 @@ use Rattle.patterns_rules.specs.declared.Count.{Count}
 use Rattle.patterns_rules.specs.Answers.{count_of}
 use Rattle.patterns_rules.specs.Patterns.{cell_inside, out_and_back, row_lines, y_at}
 use Rattle.patterns_rules.specs.LineLaws.{points_append, ends_append}
-use Rattle.cross.specs.Cells.{Next, lines_in}
-use Rattle.cross.specs.RowLaws.{row_length, lines_next, rows_in, rows_next}
+use Rattle.cross.specs.Cells.{NextRun, lines_in}
+use Rattle.cross.specs.RowLaws.{row_length, rows_in, rows_next}
+use Rattle.cross.specs.ScanLaws.{lines_then}
 
 -- the two points m of a stitch are next
 module _ {d₀ d : List Float} (k t : ℕ) (whole m rest : List P) (two : length m ≡ 2) (f : Front d₀ d (k + 4 * t) (flat (m ++ rest)) (take k d₀ ++ flat whole)) (fits : k + length (flat whole) ≤ length d₀) where
@@ -35,14 +36,14 @@ module _ {d₀ d : List Float} (k t : ℕ) (whole m rest : List P) (two : length
   stitch_put y e = let n : k + 4 * t + 2 * length m ≡ k + 4 * (t + 1) = omega (arith, two) in rw n at (points_put m rest f room y e)
 
 -- a run is next
-module _ (rings : List (List P)) (rule : FillRule) (g : Grid) (y : Float) {i : ℕ} {r : Run} (f : Next (cell_inside rings rule g y) g.columns i r) (at : ℕ) where
+module _ (rings : List (List P)) (rule : FillRule) (g : Grid) (y : Float) {i : ℕ} {r : Run} (f : NextRun (cell_inside rings rule g y) g.columns i r) (at : ℕ) where
   after : List (List P)
   after = lines_in rings rule g y (r.first + r.many)
 
   module _ {d₀ d whole : List Float} (front : Front d₀ d (2 * at) (flat (sewn_points (lines_in rings rule g y i))) whole) (fits : length whole ≤ length d₀) where
     up : Front d₀ d (2 * at) (flat (out_and_back g y r ++ sewn_points after)) whole
     unfolding sewn_points after
-    up = front_at (ap (λ (l : List (List P)). flat (sewn_points l)) (lines_next rings rule g y f)) front
+    up = front_at (ap (λ (l : List (List P)). flat (sewn_points l)) (lines_then rings rule g y f)) front
 
     pub run_room : 2 * at + 8 * r.many ≤ length d
     run_room = omega (arith, points_room (out_and_back g y r) (sewn_points after) up fits, row_length g y r)
@@ -56,7 +57,7 @@ module _ (rings : List (List P)) (rule : FillRule) (g : Grid) (y : Float) {i : �
   module _ {s : ℕ} {d₀ d whole : List ℕ} (front : Front d₀ d s (sewn_ends at (lines_in rings rule g y i)) whole) (fits : length whole ≤ length d₀) where
     stop : Front d₀ d s ((at + 4 * r.many) ∷ sewn_ends (at + 4 * r.many) after) whole
     unfolding sewn_ends after
-    stop = front_at (ap (sewn_ends at) (lines_next rings rule g y f) ∙ rw (row_length g y r)) front
+    stop = front_at (ap (sewn_ends at) (lines_then rings rule g y f) ∙ rw (row_length g y r)) front
 
     pub stop_room : s < length d
     stop_room = front_room stop fits

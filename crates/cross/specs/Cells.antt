@@ -1,14 +1,15 @@
 -- What the code of cross stitch goes by: the grid with its counts stopped past 4,096, the sides of a row, where a scan of a row's cells stops, and what a writer needs. Definitions only.
-use Rattle.std.specs.Prelude.{ℕ, ◌+◌, ◌-◌, ◌≤◌, ◌<◌, ◌≡◌, Bool, false, not, ◌⊎◌, List, ◌∷◌, map, pos, ◌+ℤ◌, T, Float}
+use Rattle.std.specs.Prelude.{ℕ, ◌+◌, ◌-◌, ◌≤◌, ◌<◌, ◌≡◌, Bool, true, false, not, ◌⊎◌, List, [], ◌∷◌, map, pos, ◌+ℤ◌, T, Float}
 use Rattle.std.specs.Float.Ieee.{is_nan, eq}
 use Rattle.std.specs.Int.{w64}
 use Rattle.std.proofs.Common.{SFits}
-use Rattle.numbers.specs.Num.{zero64}
+use Rattle.numbers.specs.Num.{◌⊕◌, ◌⊗◌, half, zero64}
 use Rattle.seqs.specs.Lists.{upto, sift, fold}
 use Rattle.seqs.specs.Slices.{capped}
 use Rattle.geom.specs.declared.point.P.{P}
-use Rattle.geom.specs.Outline.{rings}
+use Rattle.geom.specs.Outline.{rings, Layout}
 use Rattle.outlines.specs.declared.rule.FillRule.{FillRule}
+use Rattle.outlines.specs.Sides.{Gathered}
 use Rattle.limits.specs.Limits.{most_cells}
 use Rattle.patterns_rules.specs.declared.Bounds.{Bounds}
 use Rattle.patterns_rules.specs.declared.Grid.{Grid}
@@ -51,24 +52,50 @@ pub record Laid (g : Grid) : Type 0 where
   pub columns : g.columns ≤ most_cells
   pub rows : g.rows ≤ most_cells
 
+-- an outline, and in the first numbers of a slice, if it has so many, its sides across the centres of the row at y
+pub record Crossed (corners : List Float) (ends : List ℕ) (sides : List Float) (size : ℕ) (g : Grid) (y : Float) : Type 0 where
+  pub layout : Layout corners ends
+  pub across : Gathered (rings corners ends) (y ⊕ g.cell ⊗ half) size sides
+
 -- the runs of the cells from i up to n
 abbrev pub runs_in : (ℕ → Bool) → ℕ → ℕ → List Run
 runs_in inside n i = runs (sift inside (upto i (n - i)))
 
+-- r is the first cell from i on that is inside, or n
+pub record First (inside : ℕ → Bool) (n i r : ℕ) : Type 0 where
+  pub low : i ≤ r
+  pub high : r ≤ n
+  pub skips : runs_in inside n i ≡ runs_in inside n r
+  pub found : r < n → inside r ≡ true
+
+-- r is the first cell from i on that isn't, or n
+pub record Stop (inside : ℕ → Bool) (n i r : ℕ) : Type 0 where
+  pub low : i ≤ r
+  pub high : r ≤ n
+  pub all : (j : ℕ) → i ≤ j → j < r → inside j ≡ true
+  pub stops : r < n → inside r ≡ false
+
+-- r is the next run from i on; with none left its count is 0
+pub record Next (inside : ℕ → Bool) (n i : ℕ) (r : Run) : Type 0 where
+  pub low : i ≤ r.first
+  pub high : r.first + r.many ≤ n
+  pub ends : r.many ≡ 0 → runs_in inside n i ≡ []
+  pub goes : 0 < r.many → runs_in inside n i ≡ r ∷ runs_in inside n (r.first + r.many)
+
+-- the rows of stitches of a row's cells from i on
+abbrev pub lines_in : List (List P) → FillRule → Grid → Float → ℕ → List (List P)
+lines_in rings rule g y i = map (out_and_back g y) (runs_in (cell_inside rings rule g y) g.columns i)
+
 -- r is the first cell from i on that is inside, or, where yes is false, that isn't; or n
-pub record First (inside : ℕ → Bool) (n : ℕ) (yes : Bool) (i r : ℕ) : Type 0 where
+pub record Scan (inside : ℕ → Bool) (n : ℕ) (yes : Bool) (i r : ℕ) : Type 0 where
   pub low : i ≤ r
   pub high : r ≤ n
   pub before : (j : ℕ) → i ≤ j → j < r → inside j ≡ not yes
   pub found : r < n → inside r ≡ yes
 
 -- r is the next run from i on
-pub record Next (inside : ℕ → Bool) (n i : ℕ) (r : Run) : Type 0 where
+pub record NextRun (inside : ℕ → Bool) (n i : ℕ) (r : Run) : Type 0 where
   pub low : i ≤ r.first
   pub high : r.first + r.many ≤ n
   pub some : 0 < r.many
   pub goes : runs_in inside n i ≡ r ∷ runs_in inside n (r.first + r.many)
-
--- the rows of stitches of a row's cells from i on
-abbrev pub lines_in : List (List P) → FillRule → Grid → Float → ℕ → List (List P)
-lines_in rings rule g y i = map (out_and_back g y) (runs_in (cell_inside rings rule g y) g.columns i)

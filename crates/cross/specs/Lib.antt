@@ -6,4 +6,5 @@ pub mod SideLaws
 pub mod GridLaws
 pub mod RunLaws
 pub mod RowLaws
+pub mod ScanLaws
 pub mod Most

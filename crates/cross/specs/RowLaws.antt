@@ -16,7 +16,8 @@ use Rattle.rules.specs.Calls.{sewn_points}
 use Rattle.patterns_rules.specs.declared.Grid.{Grid}
 use Rattle.patterns_rules.specs.declared.Run.{Run}
 use Rattle.patterns_rules.specs.Patterns.{y_at, cell_inside, out_over, back_over, out_and_back, row_runs, row_lines, stitched}
-use Rattle.cross.specs.Cells.{Next, runs_in, lines_in}
+use Rattle.cross.specs.Cells.{Next, lines_in}
+use Rattle.cross.specs.RunLaws.{runs_none}
 
 -- ---- one run
 
@@ -66,21 +67,24 @@ module _ (rings : List (List P)) (rule : FillRule) (g : Grid) (y : Float) where
   unfolding row_lines row_runs
   lines_start = let e : g.columns - 0 ≡ g.columns = omega arith in rw e
 
-  pub lines_ended : (i : ℕ) → runs_in (cell_inside rings rule g y) g.columns i ≡ [] → lines_in rings rule g y i ≡ []
-  lines_ended i e = ap (map (out_and_back g y)) e
+  pub lines_none : (i : ℕ) → g.columns ≤ i → lines_in rings rule g y i ≡ []
+  lines_none i h = ap (map (out_and_back g y)) (runs_none (cell_inside rings rule g y) g.columns i h)
 
   module _ {i : ℕ} {r : Run} (f : Next (cell_inside rings rule g y) g.columns i r) where
-    pub lines_next : lines_in rings rule g y i ≡ out_and_back g y r ∷ lines_in rings rule g y (r.first + r.many)
-    lines_next = ap (map (out_and_back g y)) f.goes
+    pub lines_ended : r.many ≡ 0 → lines_in rings rule g y i ≡ []
+    lines_ended e = ap (map (out_and_back g y)) (f.ends e)
 
-    pub lines_count : length (lines_in rings rule g y i) ≡ 1 + length (lines_in rings rule g y (r.first + r.many))
-    lines_count = omega (arith, ap length lines_next)
+    pub lines_next : 0 < r.many → lines_in rings rule g y i ≡ out_and_back g y r ∷ lines_in rings rule g y (r.first + r.many)
+    lines_next h = ap (map (out_and_back g y)) (f.goes h)
 
-    pub points_count : length (sewn_points (lines_in rings rule g y i)) ≡ 4 * r.many + length (sewn_points (lines_in rings rule g y (r.first + r.many)))
+    pub lines_count : 0 < r.many → length (lines_in rings rule g y i) ≡ 1 + length (lines_in rings rule g y (r.first + r.many))
+    lines_count h = omega (arith, ap length (lines_next h))
+
+    pub points_count : 0 < r.many → length (sewn_points (lines_in rings rule g y i)) ≡ 4 * r.many + length (sewn_points (lines_in rings rule g y (r.first + r.many)))
     unfolding sewn_points
-    points_count =
+    points_count h =
         let rest = lines_in rings rule g y (r.first + r.many) in
-        omega (arith, ap (λ (l : List (List P)). length (sewn_points l)) lines_next, length-append (out_and_back g y r) (sewn_points rest), row_length g y r)
+        omega (arith, ap (λ (l : List (List P)). length (sewn_points l)) (lines_next h), length-append (out_and_back g y r) (sewn_points rest), row_length g y r)
 
 -- ---- all rows
 

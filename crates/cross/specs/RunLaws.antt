@@ -1,15 +1,14 @@
 -- Runs of adjacent cells, found by a scan. Assumes nothing.
-use Rattle.std.specs.Prelude.{ℕ, zero, suc, ◌+◌, ◌-◌, ◌≤◌, ◌<◌, ◌≡◌, refl, Bool, true, false, not, List, [], ◌∷◌, eqb, ltb}
+use Rattle.std.specs.Prelude.{ℕ, zero, suc, ◌+◌, ◌-◌, ◌≤◌, ◌<◌, ◌≡◌, refl, Bool, true, false, List, [], ◌∷◌, eqb, ltb}
 use Rattle.std.proofs.Common.{arith, ◌∙◌, inl, inr, eq-eqb, ne_eqb, ltb-true, ltb-false}
 use Rattle.std.proofs.Math.Path.{ap}
 use Rattle.seqs.specs.Lists.{upto, sift, All}
 use Rattle.seqs.specs.All.{all_map, all_sift}
-use Rattle.seqs.specs.Tests.{either, clash}
-use mathlib.Core.Bool.{beq}
+use Rattle.seqs.specs.Tests.{either}
 use Rattle.seqs.specs.Upto.{upto_all, upto_none, upto_kept, upto_passed}
 use Rattle.patterns_rules.specs.declared.Run.{Run}
 use Rattle.patterns_rules.specs.Patterns.{joined, runs}
-use Rattle.cross.specs.Cells.{runs_in, First, Next}
+use Rattle.cross.specs.Cells.{runs_in, First, Stop, Next}
 
 abbrev run : ℕ → ℕ → Run
 run i n = record { first = i; many = n }
@@ -76,56 +75,42 @@ module _ (inside : ℕ → Bool) (n : ℕ) where
 
   -- ---- what the scans answer
 
-  -- no cell from i on is inside, up to the first that is
-  runs_skips : (k i : ℕ) → i + k ≤ n → ((j : ℕ) → i ≤ j → j < i + k → inside j ≡ false) → runs_in inside n i ≡ runs_in inside n (i + k)
-  runs_skips zero i h all = let e : i ≡ i + 0 = omega arith in ap (runs_in inside n) e
-  runs_skips (suc k) i h all =
-      let e : i + 1 + k ≡ i + suc k = omega arith in
-      runs_skip i (omega arith) (all i (omega arith) (omega arith)) ∙ rw e at (runs_skips k (i + 1) (omega arith) (λ j a b. all j (omega arith) (omega arith)))
+  pub first_past : (i r : ℕ) → i ≤ r → r ≤ n → n ≤ r → runs_in inside n i ≡ runs_in inside n r → First inside n i r
+  first_past i r low high past e = record { low = low; high = high; skips = e; found = λ h. absurd (omega arith) }
 
-  skips : {i a : ℕ} → First inside n true i a → runs_in inside n i ≡ runs_in inside n a
-  skips {i} {a} f =
-      let e : i + (a - i) ≡ a = omega (arith, f.low) in
-      rw e at (runs_skips (a - i) i (omega (arith, f.low, f.high)) (λ j x y. f.before j x (omega (arith, f.low))))
+  pub first_here : (i r : ℕ) → i ≤ r → r < n → inside r ≡ true → runs_in inside n i ≡ runs_in inside n r → First inside n i r
+  first_here i r low high t e = record { low = low; high = omega arith; skips = e; found = λ h. t }
 
   -- none is left
-  pub next_none : {i a : ℕ} → First inside n true i a → n ≤ a → runs_in inside n i ≡ []
-  next_none {i} {a} f h = skips f ∙ runs_none a h
+  pub next_none : {i a : ℕ} → First inside n i a → n ≤ a → Next inside n i (run a 0)
+  next_none {i} {a} f h = record { low = f.low; high = omega (arith, f.high); ends = λ e. f.skips ∙ runs_none a h; goes = λ e. absurd (omega arith) }
 
   -- from a up to b, where the scan stopped
-  a_run : (a b : ℕ) → a < n → inside a ≡ true → First inside n false (a + 1) b → runs_in inside n a ≡ run a (b - a) ∷ runs_in inside n (a + (b - a))
+  a_run : (a b : ℕ) → a < n → inside a ≡ true → Stop inside n (a + 1) b → runs_in inside n a ≡ run a (b - a) ∷ runs_in inside n (a + (b - a))
   a_run a b h t s =
       let k = b - (a + 1) in
       let e : a + k + 1 ≡ b = omega (arith, s.low) in
       let c : k + 1 ≡ b - a = omega (arith, s.low) in
       let d : a + (b - a) ≡ b = omega (arith, s.low) in
-      rw d (rw (c, e) at (runs_run k a (omega (arith, s.low, s.high)) (λ j x y. here j x (omega (arith, e))) (rw (← e) at s.found)))
+      rw d (rw (c, e) at (runs_run k a (omega (arith, s.low, s.high)) (λ j x y. here j x (omega (arith, e))) (rw (← e) at s.stops)))
     where
       here : (j : ℕ) → a ≤ j → j < b → inside j ≡ true
       here j x y = elim (either (ltb a j)) [
-        | inl l ↦ s.before j (omega (arith, ltb-true a j l)) y
+        | inl l ↦ s.all j (omega (arith, ltb-true a j l)) y
         | inr l ↦ let z : j ≡ a = omega (arith, ltb-false a j l) in rw z t
       ]
 
-  pub next_run : {i a b : ℕ} → First inside n true i a → a < n → First inside n false (a + 1) b → Next inside n i (run a (b - a))
-  next_run {i} {a} {b} f h s = record { low = f.low; high = omega (arith, s.low, s.high); some = omega (arith, s.low); goes = skips f ∙ a_run a b h (f.found h) s }
+  pub next_run : {i a b : ℕ} → First inside n i a → a < n → Stop inside n (a + 1) b → Next inside n i (run a (b - a))
+  next_run {i} {a} {b} f h s = record {
+    low = f.low;
+    high = omega (arith, s.low, s.high);
+    ends = λ e. absurd (omega (arith, s.low));
+    goes = λ g. f.skips ∙ a_run a b h (f.found h) s;
+  }
 
 -- one cell more
-pub all_on : (inside : ℕ → Bool) {v : Bool} (i j : ℕ) → ((t : ℕ) → i ≤ t → t < j → inside t ≡ v) → inside j ≡ v → (t : ℕ) → i ≤ t → t < j + 1 → inside t ≡ v
+pub all_on : (inside : ℕ → Bool) (i j : ℕ) → ((t : ℕ) → i ≤ t → t < j → inside t ≡ true) → inside j ≡ true → (t : ℕ) → i ≤ t → t < j + 1 → inside t ≡ true
 all_on inside i j all e t a b = elim (either (ltb t j)) [
   | inl l ↦ all t a (ltb-true t j l)
   | inr l ↦ let z : t ≡ j = omega (arith, ltb-false t j l) in rw z e
 ]
-
--- a test that is as it should be, or is its other
-pub same : (a b : Bool) → beq a b ≡ true → a ≡ b
-same true true h = refl
-same true false h = clash h refl
-same false true h = clash h refl
-same false false h = refl
-
-pub other : (a b : Bool) → beq a b ≡ false → a ≡ not b
-other true true h = clash refl h
-other true false h = refl
-other false true h = refl
-other false false h = clash refl h

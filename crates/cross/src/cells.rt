@@ -4,7 +4,7 @@ ghost use Rattle.numbers.specs.Num.{◌⊕◌, ◌⊗◌, half};
 ghost use Rattle.geom.specs.Rings.{rings_of};
 ghost use Rattle.outlines.specs.Sides.{Gathered};
 ghost use Rattle.patterns_rules.specs.Patterns.{cell_inside};
-ghost use Rattle.cross.specs.Cells.{First, Next, runs_in};
+ghost use Rattle.cross.specs.Cells.{Scan, NextRun, runs_in};
 ghost use Rattle.cross.specs.CellsLaws.{gathered_prop};
 
 use crate::badge::Badge;
@@ -58,7 +58,7 @@ impl<'a> Row<'a> {
     // The first cell from i on that is inside, or that isn't.
     fn first(self, i: usize, inside: bool) -> usize
         requires { i ≤ self.badge.grid.columns }
-        ensures { First (cell_inside (rings_of self.entry.badge.outline) self.entry.badge.rule self.entry.badge.grid self.entry.y) self.entry.badge.grid.columns inside i result }
+        ensures { Scan (cell_inside (rings_of self.entry.badge.outline) self.entry.badge.rule self.entry.badge.grid self.entry.y) self.entry.badge.grid.columns inside i result }
     {
         for j in i..self.badge.grid.columns {
             if self.has(j) == inside {
@@ -71,7 +71,7 @@ impl<'a> Row<'a> {
     // The next run from i on.
     pub fn next_run(self, i: usize) -> Option<Run>
         requires { i ≤ self.badge.grid.columns }
-        ensures { MatchOption result (runs_in (cell_inside (rings_of self.entry.badge.outline) self.entry.badge.rule self.entry.badge.grid self.entry.y) self.entry.badge.grid.columns i ≡ []) (λ r. Next (cell_inside (rings_of self.entry.badge.outline) self.entry.badge.rule self.entry.badge.grid self.entry.y) self.entry.badge.grid.columns i r) }
+        ensures { MatchOption result (runs_in (cell_inside (rings_of self.entry.badge.outline) self.entry.badge.rule self.entry.badge.grid self.entry.y) self.entry.badge.grid.columns i ≡ []) (λ r. NextRun (cell_inside (rings_of self.entry.badge.outline) self.entry.badge.rule self.entry.badge.grid self.entry.y) self.entry.badge.grid.columns i r) }
     {
         let first = self.first(i, true);
         if first == self.badge.grid.columns {

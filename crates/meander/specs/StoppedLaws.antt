@@ -1,13 +1,11 @@
 -- A grid whose counts are stopped past 400,000 is the grid, or is too large as the grid is. Assumes nothing.
-use Rattle.std.specs.Prelude.{ℕ, ◌+◌, ◌*◌, ◌≤◌, ◌<◌, ◌≡◌, refl, Bool, cond, ◌&&◌, ◌⊎◌, List, [], length, Float, Result, Ok, Err}
+use Rattle.std.specs.Prelude.{ℕ, ◌+◌, ◌*◌, ◌≤◌, ◌<◌, ◌≡◌, refl, Bool, cond, ◌&&◌, ◌⊎◌, List, [], length, Float}
 use Rattle.std.proofs.Common.{arith, mul-le-mul, mul-one, one-mul, sym, ◌∙◌, inl, inr}
 use Rattle.std.proofs.Math.Path.{ap}
 use Rattle.std.proofs.Math.Bool.{true, false}
 use Rattle.std.proofs.Math.Dec.{leb}
 use Rattle.std.specs.Float.Ieee.{to_unsigned}
 use borrow.Author.Tests.{lt-ltb, le-ltb, le-leb, lt-leb}
-use Rattle.refusal.specs.declared.Refusal.{Refusal}
-use Rattle.refusal.specs.declared.Refusal.TheVariants.{Work}
 use Rattle.refusal.specs.Refusal.{DONE, WORK, ROOM, unless, ◌then◌}
 use Rattle.numbers.specs.Num.{◌⊖◌, ◌⊘◌}
 use Rattle.numbers.specs.Order.{finite}
@@ -23,9 +21,8 @@ use Rattle.limits.specs.Limits.{good_outline}
 use Rattle.limits.specs.LimitsLaws.{outline_layout}
 use Rattle.rules.specs.Calls.{sewn_points, sewn_ends}
 use Rattle.patterns_rules.specs.declared.Bounds.{Bounds}
-use Rattle.patterns_rules.specs.declared.Count.{Count}
 use Rattle.patterns_rules.specs.Patterns.{bounds}
-use Rattle.patterns_rules.specs.Answers.{room_for, said_count, said_lines, left_points, left_ends, LinesSewn}
+use Rattle.patterns_rules.specs.Answers.{Lines, room_for, said_lines, left_points, left_ends}
 use Rattle.cross.specs.Cells.{bounds_of}
 use Rattle.cross.specs.BoundLaws.{bounds_are}
 use Rattle.meander_rules.specs.declared.Lattice.{Lattice}
@@ -134,18 +131,18 @@ no_answer a b = rw (le-leb 0 a (omega arith), le-leb 0 b (omega arith))
 
 module _ (rings : List (List P)) (rule : FillRule) (g : Lattice) (len : Float) (seed : ℕ) (out : List Float) (stops : List ℕ) (wholes : ℕ) where
   -- a grid with no point, or too many
-  pub record Said (r : Result Count Refusal) (out' : List Float) (stops' : List ℕ) : Type 0 where
-    pub says : said_count r ≡ said_lines (answer_on rings rule g len seed (length out) (length stops) wholes) (lines_on rings rule g len seed)
+  pub record Said (r : Lines) (out' : List Float) (stops' : List ℕ) : Type 0 where
+    pub says : r ≡ said_lines (answer_on rings rule g len seed (length out) (length stops) wholes) (lines_on rings rule g len seed)
     pub points : out' ≡ left_points (answer_on rings rule g len seed (length out) (length stops) wholes) (lines_on rings rule g len seed) out
     pub ends : stops' ≡ left_ends (answer_on rings rule g len seed (length out) (length stops) wholes) (lines_on rings rule g len seed) stops
 
-  nothing_said : lines_on rings rule g len seed ≡ [] → need_of g ≡ 0 → Said (Ok (record { lines = 0; points = 0 })) out stops
+  nothing_said : lines_on rings rule g len seed ≡ [] → need_of g ≡ 0 → Said (record { answer = 0; lines = 0; points = 0 }) out stops
   unfolding said_lines left_points left_ends flat sewn_points sewn_ends
   nothing_said l n =
       let t : leb 0 wholes ≡ true = le-leb 0 wholes (omega arith) in
       record { says = rw (l, n, t, no_answer (length out) (length stops)); points = rw (l, n, t, no_answer (length out) (length stops)); ends = rw (l, n, t, no_answer (length out) (length stops)) }
 
-  pub large_said : most_points < points_of g → Said (Ok (record { lines = 0; points = 0 })) out stops
+  pub large_said : most_points < points_of g → Said (record { answer = 0; lines = 0; points = 0 }) out stops
   large_said h = let q = too_large rings rule len seed g h in nothing_said q.0 q.1
 
   no_paths : points_of g ≡ 0 → paths_of rings rule g seed ≡ []
@@ -163,7 +160,7 @@ module _ (rings : List (List P)) (rule : FillRule) (g : Lattice) (len : Float) (
   unfolding need_of
   none_need e = rw e
 
-  pub none_said : points_of g ≡ 0 → Said (Ok (record { lines = 0; points = 0 })) out stops
+  pub none_said : points_of g ≡ 0 → Said (record { answer = 0; lines = 0; points = 0 }) out stops
   none_said e = nothing_said (none_on e) (none_need e)
 
   module _ (few : points_of g ≤ most_points) where
@@ -174,14 +171,17 @@ module _ (rings : List (List P)) (rule : FillRule) (g : Lattice) (len : Float) (
     unfolding need_of
     need_on = rw (le-ltb most_points (points_of g) few)
 
-    pub work_said : wholes < 8 * points_of g → {e : Refusal} → e ≡ Work → Said (Err e) out stops
+    pub work_said : wholes < 8 * points_of g → Said (record { answer = 6; lines = 0; points = 0 }) out stops
     unfolding said_lines left_points left_ends
-    work_said h f = let t : leb (need_of g) wholes ≡ false = lt-leb (need_of g) wholes (omega (arith, need_on)) in record { says = rw (t, f); points = rw t; ends = rw t }
+    work_said h = let t : leb (need_of g) wholes ≡ false = lt-leb (need_of g) wholes (omega (arith, need_on)) in record { says = rw t; points = rw t; ends = rw t }
 
-    pub sewn_said : 8 * points_of g ≤ wholes → {r : Result Count Refusal} {out' : List Float} {stops' : List ℕ} → LinesSewn (meander_on rings rule g len seed) r out out' stops stops' → Said r out' stops'
-    sewn_said h w =
+    pub sewn_said : 8 * points_of g ≤ wholes → {r : Lines} {out' : List Float} {stops' : List ℕ}
+        → r ≡ said_lines (room_for (meander_on rings rule g len seed) (length out) (length stops)) (meander_on rings rule g len seed)
+        → out' ≡ left_points (room_for (meander_on rings rule g len seed) (length out) (length stops)) (meander_on rings rule g len seed) out
+        → stops' ≡ left_ends (room_for (meander_on rings rule g len seed) (length out) (length stops)) (meander_on rings rule g len seed) stops → Said r out' stops'
+    sewn_said h a b c =
         let t : leb (need_of g) wholes ≡ true = le-leb (need_of g) wholes (omega (arith, need_on)) in
-        record { says = rw (t, on_it) w.says; points = rw (t, on_it) w.points; ends = rw (t, on_it) w.ends }
+        record { says = rw (t, on_it) a; points = rw (t, on_it) b; ends = rw (t, on_it) c }
 
 -- the working slice: none of the answers on a grid leaves it
 pub answer_works : (rings : List (List P)) (rule : FillRule) (g : Lattice) (len : Float) (seed room lineRoom wholes : ℕ) → (leb 1 (answer_on rings rule g len seed room lineRoom wholes) && leb (answer_on rings rule g len seed room lineRoom wholes) 5) ≡ false

@@ -2,7 +2,7 @@
 ghost use Rattle.std.specs.Prelude.{◌≡◌, ◌*◌, ◌≤◌, length, replicate};
 ghost use Rattle.seqs.specs.Lists.{each};
 ghost use Rattle.geom.specs.Rings.{rings_of};
-ghost use Rattle.patterns_rules.specs.Answers.{LinesSewn};
+ghost use Rattle.patterns_rules.specs.Answers.{said_count, LinesSewn};
 ghost use Rattle.meander_rules.specs.Meander.{points_of, most_points, lines_along, meander_on};
 ghost use Rattle.wander.specs.Walking.{walks_in, Between};
 ghost use Rattle.meander.specs.StoppedLaws.{Said};
@@ -70,7 +70,7 @@ fn on_room(
     w: &mut [usize],
 ) -> Result<Count, Refusal>
     requires { (g.columns ≤ 400001) × (g.rows ≤ 400001) }
-    ensures { Said (rings_of o.entry) rule g len seed out.old stops.old (length w.old) result out.new stops.new × (length w.new ≡ length w.old) }
+    ensures { Said (rings_of o.entry) rule g len seed out.old stops.old (length w.old) (said_count result) out.new stops.new × (length w.new ≡ length w.old) }
 {
     let n = g.columns * g.rows;
     if n == 0 || n > 400000 {
@@ -102,7 +102,7 @@ pub fn on_lattice(
     w: &mut [usize],
 ) -> Result<Count, Refusal>
     requires { (g.columns ≤ 400001) × (g.rows ≤ 400001) }
-    ensures { Said (rings_of o.entry) rule g len seed out.old stops.old (length w.old) result out.new stops.new × (w.new ≡ replicate (length w.old) 0) }
+    ensures { Said (rings_of o.entry) rule g len seed out.old stops.old (length w.old) (said_count result) out.new stops.new × (w.new ≡ replicate (length w.old) 0) }
 {
     let said = on_room(o, rule, g, len, seed, out, stops, w);
     w.fill(0);

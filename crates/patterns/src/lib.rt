@@ -3,7 +3,7 @@
 
 ghost use Rattle.std.specs.Prelude.{◌≡◌, length};
 ghost use Rattle.patterns_rules.specs.Answers.{said_count, bounds_answer, clip_said, clip_points, clip_ends, cross_said, cross_points, cross_ends};
-ghost use Rattle.patterns.specs.Said.{said_box};
+ghost use Rattle.patterns.specs.Said.{box_of, said_box};
 
 mod badge;
 
@@ -16,7 +16,7 @@ use refusal::{Refusal, unless};
 
 // The bounds of an outline.
 pub fn bounds(corners: &[f64], ends: &[usize]) -> Result<Bounds, Refusal>
-    ensures { said_box result ≡ bounds_answer corners.now ends.now }
+    ensures { said_box (box_of result) ≡ bounds_answer corners.now ends.now }
 {
     let o = outline(corners, ends)?;
     unless(Refusal::Number, good_numbers(o.corners))?;

@@ -13,8 +13,8 @@ use Rattle.meander_rules.specs.Meander.{Walk, Order, points_of, neighbours, shuf
 use Rattle.meander_rules.specs.FreeLaws.{ones, ones_taken}
 use Rattle.meander_rules.specs.TurnLaws.{left, way_open, turns_keep, turn_less, turns_over, turns_next}
 use Rattle.wander.specs.declared.Steps.{Steps}
-use Rattle.wander.specs.Walking.{walk_in, Sized, Stepped, Sound, Ready, finish}
-use Rattle.wander.specs.OpenLaws.{free_low}
+use Rattle.wander.specs.Walking.{walk_in, Sized, Stepped, Sound, Ready, found, finish}
+use Rattle.wander.specs.OpenLaws.{free_low, found_at, found_none}
 use Rattle.wander.specs.SliceLaws.{stack_top}
 
 module _ (n : ℕ) (w : List ℕ) (s : Steps) (z : Sized n w s) where
@@ -64,20 +64,32 @@ module _ (g : Lattice) (link : ℕ → ℕ → Bool) where
     unfolding turn turn_from
     turn_is e = rw (stack_top (points_of g) w s z h, e)
 
+    module _ {x : ℕ} (e : x ≡ (shuffle (neighbours g (get_or w s.top 0)) s.seed).seed) {k : ℕ} (f : found (points_of g) k ≡ open_way link (take (points_of g) w) (get_or w s.top 0) (shuffle (neighbours g (get_or w s.top 0)) s.seed).order) where
+      pub picked_free : k < points_of g → is_free (take (points_of g) w) k ≡ true
+      picked_free l = (way_open g link (take (points_of g) w) (get_or w s.top 0) (shuffle (neighbours g (get_or w s.top 0)) s.seed).order (sym f ∙ found_at (points_of g) k l)).0
+
+      pub turn_on : k < points_of g → go_on k (walk_in (points_of g) w (record { top = s.top; size = s.size; seed = x })) ≡ turn g link (walk_in (points_of g) w s)
+      unfolding move
+      turn_on l = sym (turn_is e ∙ ap (λ (ways : List ℕ). move ways (walk_in (points_of g) w (record { top = s.top; size = s.size; seed = x }))) (sym f ∙ found_at (points_of g) k l))
+
+      pub turn_back : points_of g ≤ k → go_back (walk_in (points_of g) w (record { top = s.top; size = s.size; seed = x })) ≡ turn g link (walk_in (points_of g) w s)
+      unfolding move
+      turn_back l = sym (turn_is e ∙ ap (λ (ways : List ℕ). move ways (walk_in (points_of g) w (record { top = s.top; size = s.size; seed = x }))) (sym f ∙ found_none (points_of g) k l))
+
     module _ {x : ℕ} (e : x ≡ (shuffle (neighbours g (get_or w s.top 0)) s.seed).seed) {o : Option ℕ} (f : option_to_list o ≡ open_way link (take (points_of g) w) (get_or w s.top 0) (shuffle (neighbours g (get_or w s.top 0)) s.seed).order) where
-      pub picked_free : (k : ℕ) → o ≡ Some k → is_free (take (points_of g) w) k ≡ true
-      picked_free k l = (way_open g link (take (points_of g) w) (get_or w s.top 0) (shuffle (neighbours g (get_or w s.top 0)) s.seed).order (sym f ∙ ap option_to_list l)).0
+      pub way_free : (k : ℕ) → o ≡ Some k → is_free (take (points_of g) w) k ≡ true
+      way_free k l = (way_open g link (take (points_of g) w) (get_or w s.top 0) (shuffle (neighbours g (get_or w s.top 0)) s.seed).order (sym f ∙ ap option_to_list l)).0
 
-      pub picked_low : (k : ℕ) → o ≡ Some k → k < points_of g
-      picked_low k l = omega (arith, free_low (take (points_of g) w) k (picked_free k l), length-take-le (points_of g) w (omega (arith, z.room)))
+      pub way_low : (k : ℕ) → o ≡ Some k → k < points_of g
+      way_low k l = omega (arith, free_low (take (points_of g) w) k (way_free k l), length-take-le (points_of g) w (omega (arith, z.room)))
 
-      pub turn_on : (k : ℕ) → o ≡ Some k → go_on k (walk_in (points_of g) w (record { top = s.top; size = s.size; seed = x })) ≡ turn g link (walk_in (points_of g) w s)
+      pub way_on : (k : ℕ) → o ≡ Some k → go_on k (walk_in (points_of g) w (record { top = s.top; size = s.size; seed = x })) ≡ turn g link (walk_in (points_of g) w s)
       unfolding move
-      turn_on k l = sym (turn_is e ∙ ap (λ (ways : List ℕ). move ways (walk_in (points_of g) w (record { top = s.top; size = s.size; seed = x }))) (sym f ∙ ap option_to_list l))
+      way_on k l = sym (turn_is e ∙ ap (λ (ways : List ℕ). move ways (walk_in (points_of g) w (record { top = s.top; size = s.size; seed = x }))) (sym f ∙ ap option_to_list l))
 
-      pub turn_back : o ≡ None → go_back (walk_in (points_of g) w (record { top = s.top; size = s.size; seed = x })) ≡ turn g link (walk_in (points_of g) w s)
+      pub way_back : o ≡ None → go_back (walk_in (points_of g) w (record { top = s.top; size = s.size; seed = x })) ≡ turn g link (walk_in (points_of g) w s)
       unfolding move
-      turn_back l = sym (turn_is e ∙ ap (λ (ways : List ℕ). move ways (walk_in (points_of g) w (record { top = s.top; size = s.size; seed = x }))) (sym f ∙ ap option_to_list l))
+      way_back l = sym (turn_is e ∙ ap (λ (ways : List ℕ). move ways (walk_in (points_of g) w (record { top = s.top; size = s.size; seed = x }))) (sym f ∙ ap option_to_list l))
 
   -- ---- what stays sound
 

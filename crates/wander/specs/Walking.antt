@@ -1,5 +1,5 @@
 -- What the code of the walks goes by: a walk in a slice of n grid points, and what a step leaves. Definitions only.
-use Rattle.std.specs.Prelude.{ℕ, ◌+◌, ◌*◌, ◌≤◌, ◌<◌, ◌≡◌, Bool, true, cond, List, length, take, drop}
+use Rattle.std.specs.Prelude.{ℕ, ◌+◌, ◌*◌, ◌≤◌, ◌<◌, ◌≡◌, Bool, true, cond, List, [], ◌∷◌, ltb, length, take, drop}
 use Rattle.seqs.specs.Lists.{All}
 use Rattle.geom.specs.Outline.{cut, rising}
 use Rattle.meander_rules.specs.declared.Lattice.{Lattice}
@@ -31,6 +31,10 @@ pub record Stepped (n : ℕ) (w w' : List ℕ) (r : Steps) (x : Walk) : Type 0 w
   pub size : r.size ≤ 2 * n
   pub kept : drop (4 * n) w' ≡ drop (4 * n) w
   pub long : length w' ≡ length w
+
+-- the way that is taken, if it leads to a point of the grid
+abbrev pub found : ℕ → ℕ → List ℕ
+found n k = cond (ltb k n) (k ∷ []) []
 
 -- how far a walk can be: each free point takes a place of the stack and two of the paths, each on the stack one of the paths
 pub record Sound (n : ℕ) (x : Walk) : Type 0 where

@@ -9,7 +9,7 @@ use Rattle.rules.specs.Calls.{sewn_points}
 use Rattle.patterns_rules.specs.Answers.{count_of}
 use Rattle.patterns_rules.specs.Patterns.{clip_inside}
 use Rattle.clip.specs.Clip.{clipped_in, added, ended, points_from, ends_from}
-use Rattle.clip.specs.ClipLaws.{clip_points_lem, clip_lines, points_step, ends_step, points_stop, ends_stop}
+use Rattle.clip.specs.LineLaws.{line_points, line_runs, points_piece, ends_piece, points_last, ends_last}
 use Rattle.clip.proofs.count.Goals as goal
 
 pub returns-in_default : goal.returns-in_default
@@ -22,7 +22,7 @@ loop-q-init c =
     let rule = c.args.area.rule in
     let p = c.in-Some.p in
     let rest = c.next.new.self in
-    rw (sym c.of-corners.ensures ∙ c.in-Some.ensures.steps, c.into_iter-q-iterator.ensures.into_iter_gives) (omega arith, omega arith, c.has-was.ensures, omega (arith, clip_lines r rule p rest), omega (arith, ap length (clip_points_lem r rule p rest)))
+    rw (sym c.of-corners.ensures ∙ c.in-Some.ensures.steps, c.into_iter-q-iterator.ensures.into_iter_gives) (omega arith, omega arith, c.has-was.ensures, omega (arith, line_runs r rule p rest), omega (arith, ap length (line_points r rule p rest)))
 
 pub overflow_add-s : goal.overflow_add-s
 overflow_add-s c = let m = rw c.in-Some-q.ensures.steps at c.loop-q.invariant.0 in record { fits = omega (arith, c.ended-s.ensures.1, points_length c.args.line.now) }
@@ -38,8 +38,8 @@ loop-q-preserved c =
     let k = c.piece_inside-kept.result in
     let q = c.in-Some-q.q in
     let rest = c.next-in-loop-q.new.self in
-    let e = ap length (ends_step r rule l.on l.p q rest c.piece_inside-kept.ensures l.at) ∙ length-append (ended k l.on l.at) (ends_from r rule k (l.at + length (added k l.on l.p q)) q rest) in
-    let f = ap length (points_step r rule l.on l.p q rest c.piece_inside-kept.ensures) ∙ length-append (added k l.on l.p q) (points_from r rule k q rest) in
+    let e = ap length (ends_piece r rule l.on l.p q rest c.piece_inside-kept.ensures l.at) ∙ length-append (ended k l.on l.at) (ends_from r rule k (l.at + length (added k l.on l.p q)) q rest) in
+    let f = ap length (points_piece r rule l.on l.p q rest c.piece_inside-kept.ensures) ∙ length-append (added k l.on l.p q) (points_from r rule k q rest) in
     let i = rw c.in-Some-q.ensures.steps at l.invariant in
     (omega (arith, c.ended-s.ensures, i.0), omega (arith, c.added-at.ensures, i.1), c.has-is.ensures, rw c.added-at.ensures.0 (omega (arith, e, c.ended-s.ensures, i.3)), omega (arith, f, c.added-at.ensures, i.4))
 
@@ -53,8 +53,8 @@ returns c =
     let r = rings_of c.args.area.outline in
     let rule = c.args.area.rule in
     let i = rw c.in-None.ensures.steps.0 at l.invariant in
-    let e = ap length (ends_stop r rule l.on l.p l.at) in
-    let f = ap length (points_stop r rule l.on l.p) in
+    let e = ap length (ends_last r rule l.on l.p l.at) in
+    let f = ap length (points_last r rule l.on l.p) in
     let x : l.s + c.ended.result ≡ length (clipped_in c.args.line.now c.args.area) = omega (arith, e, c.ended.ensures, i.3) in
     let y : l.at ≡ length (sewn_points (clipped_in c.args.line.now c.args.area)) = omega (arith, f, i.4) in
     rw (x, y)

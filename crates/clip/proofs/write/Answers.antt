@@ -12,7 +12,7 @@ use Rattle.rules.specs.CallLaws.{ends_length}
 use Rattle.patterns_rules.specs.Answers.{count_of, left_points, left_ends}
 use Rattle.patterns_rules.specs.Patterns.{clip_inside}
 use Rattle.clip.specs.Clip.{clipped_in, ended}
-use Rattle.clip.specs.ClipLaws.{clip_points_lem, clip_ends_lem, points_stop, ends_stop}
+use Rattle.clip.specs.LineLaws.{line_points, line_ends, points_last, ends_last}
 use Rattle.clip.proofs.Turns.{added_room, added_put, ended_room, ended_put, last_room, last_put, all_counted}
 use Rattle.clip.proofs.write.Goals as goal
 
@@ -26,7 +26,7 @@ loop-q-init c =
     let rule = c.args.area.rule in
     let p = c.in-Some.p in
     let rest = c.next.new.self in
-    rw (sym c.of-corners.ensures ∙ c.in-Some.ensures.steps, c.into_iter-q-iterator.ensures.into_iter_gives) (omega arith, omega arith, c.has-was.ensures, rw (← clip_points_lem r rule p rest) (front_start _ _), rw (← clip_ends_lem r rule p rest) (front_start _ _))
+    rw (sym c.of-corners.ensures ∙ c.in-Some.ensures.steps, c.into_iter-q-iterator.ensures.into_iter_gives) (omega arith, omega arith, c.has-was.ensures, rw (← line_points r rule p rest) (front_start _ _), rw (← line_ends r rule p rest) (front_start _ _))
 
 pub put_ended-requires : goal.put_ended-requires
 put_ended-requires c =
@@ -59,7 +59,7 @@ pub put_ended-requires-2 : goal.put_ended-requires-2
 put_ended-requires-2 c =
     let l = c.loop-q in
     let i = rw c.in-None.ensures.steps.0 at l.invariant in
-    last_room l.on l.at (front_at (ends_stop (rings_of c.args.area.outline) c.args.area.rule l.on l.p l.at) i.4) (omega (arith, c.requires.1, ends_length 0 (clipped_in c.args.line.now c.args.area)))
+    last_room l.on l.at (front_at (ends_last (rings_of c.args.area.outline) c.args.area.rule l.on l.p l.at) i.4) (omega (arith, c.requires.1, ends_length 0 (clipped_in c.args.line.now c.args.area)))
 
 pub overflow_add-result : goal.overflow_add-result
 overflow_add-result c = record { fits = omega (arith, c.ended.ensures.1, c.loop-q.invariant.0, points_length c.args.line.now) }
@@ -71,7 +71,7 @@ pub shape_of-stops : goal.shape_of-stops
 shape_of-stops c =
     let l = c.loop-q in
     let i = rw c.in-None.ensures.steps.0 at l.invariant in
-    (last_put l.on l.at (front_at (ends_stop (rings_of c.args.area.outline) c.args.area.rule l.on l.p l.at) i.4) (omega (arith, c.requires.1, ends_length 0 (clipped_in c.args.line.now c.args.area))) _ c.put_ended-2.ensures).len
+    (last_put l.on l.at (front_at (ends_last (rings_of c.args.area.outline) c.args.area.rule l.on l.p l.at) i.4) (omega (arith, c.requires.1, ends_length 0 (clipped_in c.args.line.now c.args.area))) _ c.put_ended-2.ensures).len
 
 pub returns : goal.returns
 unfolding left_ends left_points
@@ -79,6 +79,6 @@ returns c =
     let l = c.loop-q in
     let r = rings_of c.args.area.outline in
     let i = rw c.in-None.ensures.steps.0 at l.invariant in
-    let x = front_at (flat_none (points_stop r c.args.area.rule l.on l.p)) i.3 in
-    let y = last_put l.on l.at (front_at (ends_stop r c.args.area.rule l.on l.p l.at) i.4) (omega (arith, c.requires.1, ends_length 0 (clipped_in c.args.line.now c.args.area))) _ c.put_ended-2.ensures in
+    let x = front_at (flat_none (points_last r c.args.area.rule l.on l.p)) i.3 in
+    let y = last_put l.on l.at (front_at (ends_last r c.args.area.rule l.on l.p l.at) i.4) (omega (arith, c.requires.1, ends_length 0 (clipped_in c.args.line.now c.args.area))) _ c.put_ended-2.ensures in
     (all_counted (clipped_in c.args.line.now c.args.area) (ended false l.on l.at) l.at l.s c.ended.result x y c.ended.ensures.0, front_end x, front_end y)

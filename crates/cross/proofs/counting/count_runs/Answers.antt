@@ -6,7 +6,8 @@ use Rattle.geom.specs.Outline.{rings}
 use Rattle.rules.specs.Calls.{sewn_points}
 use Rattle.patterns_rules.specs.Patterns.{row_lines}
 use Rattle.patterns_rules.specs.Answers.{count_of}
-use Rattle.cross.specs.RowLaws.{lines_start, lines_ended, lines_count, points_count}
+use Rattle.cross.specs.RowLaws.{lines_start}
+use Rattle.cross.specs.ScanLaws.{lines_left, lines_more, points_more}
 use borrow.Author.Rules.{rules}
 use Rattle.cross.proofs.counting.count_runs.Goals as goal
 
@@ -37,15 +38,15 @@ loop-run-smaller c = omega (arith, c.in-Some.ensures.low, c.in-Some.ensures.high
 pub loop-run-preserved : goal.loop-run-preserved
 loop-run-preserved c =
     let a = c.args in let l = c.loop-run in
-    let n = lines_count (rings a.row.badge.outline.corners.now a.row.badge.outline.ends.now) a.row.badge.rule a.row.badge.grid a.row.y c.in-Some.ensures in
-    let m = points_count (rings a.row.badge.outline.corners.now a.row.badge.outline.ends.now) a.row.badge.rule a.row.badge.grid a.row.y c.in-Some.ensures in
+    let n = lines_more (rings a.row.badge.outline.corners.now a.row.badge.outline.ends.now) a.row.badge.rule a.row.badge.grid a.row.y c.in-Some.ensures in
+    let m = points_more (rings a.row.badge.outline.corners.now a.row.badge.outline.ends.now) a.row.badge.rule a.row.badge.grid a.row.y c.in-Some.ensures in
     (c.in-Some.ensures.high, omega (arith, c.in-Some.ensures.low, l.invariant.1, c.in-Some.ensures.some), omega (arith, c.in-Some.ensures.low, l.invariant.2), omega (arith, n, l.invariant.3), omega (arith, m, l.invariant.4))
 
 pub returns : goal.returns
 unfolding count_of
 returns c =
     let a = c.args in let l = c.loop-run in
-    let n = lines_ended (rings a.row.badge.outline.corners.now a.row.badge.outline.ends.now) a.row.badge.rule a.row.badge.grid a.row.y l.i c.in_default.ensures in
+    let n = lines_left (rings a.row.badge.outline.corners.now a.row.badge.outline.ends.now) a.row.badge.rule a.row.badge.grid a.row.y l.i c.in_default.ensures in
     let x : l.s ≡ length (row_lines (rings a.row.badge.outline.corners.now a.row.badge.outline.ends.now) a.row.badge.rule a.row.badge.grid a.row.y) = omega (arith, ap length n, l.invariant.3) in
     let y : l.at ≡ length (sewn_points (row_lines (rings a.row.badge.outline.corners.now a.row.badge.outline.ends.now) a.row.badge.rule a.row.badge.grid a.row.y)) = unfold sewn_points in omega (arith, ap (λ ls. length (sewn_points ls)) n, l.invariant.4) in
     (rw (x, y), omega (arith, l.invariant.0, l.invariant.1, c.args.row.badge.laid.columns), omega (arith, l.invariant.0, l.invariant.2, c.args.row.badge.laid.columns))

@@ -8,7 +8,8 @@ use Rattle.geom.specs.Sewing.{flat}
 use Rattle.rules.specs.Calls.{sewn_points, sewn_ends}
 use Rattle.rules.specs.CallLaws.{ends_length}
 use Rattle.patterns_rules.specs.Patterns.{row_lines}
-use Rattle.cross.specs.RowLaws.{lines_start, lines_ended}
+use Rattle.cross.specs.RowLaws.{lines_start}
+use Rattle.cross.specs.ScanLaws.{lines_left}
 use Rattle.cross.proofs.Turns.{run_room, run_put, stop_room, stop_put, rows_put}
 use borrow.Author.Rules.{rules}
 use Rattle.cross.proofs.writing.put_runs.Goals as goal
@@ -66,4 +67,4 @@ shape_of-stops c = c.loop-run.invariant.2.len
 pub returns : goal.returns
 returns c =
     let a = c.args in let l = c.loop-run in
-    rows_put (row_lines (rings a.row.badge.outline.corners.now a.row.badge.outline.ends.now) a.row.badge.rule a.row.badge.grid a.row.y) (lines_ended (rings a.row.badge.outline.corners.now a.row.badge.outline.ends.now) a.row.badge.rule a.row.badge.grid a.row.y l.i c.in_default.ensures) l.at l.s a.done.points a.done.lines l.invariant.1 l.invariant.2 (omega (arith, c.requires.0)) (omega (arith, c.requires.1))
+    rows_put (row_lines (rings a.row.badge.outline.corners.now a.row.badge.outline.ends.now) a.row.badge.rule a.row.badge.grid a.row.y) (lines_left (rings a.row.badge.outline.corners.now a.row.badge.outline.ends.now) a.row.badge.rule a.row.badge.grid a.row.y l.i c.in_default.ensures) l.at l.s a.done.points a.done.lines l.invariant.1 l.invariant.2 (omega (arith, c.requires.0)) (omega (arith, c.requires.1))

@@ -31,7 +31,7 @@ returns-in_err-unless c =
     let few : points_of a.g ≤ most_points = omega (arith, c.if-n-gt400000.false) in
     let p = err_from_is_err_and c.from_residual.result c.from_residual.ensures.1 in
     let e = c.in_err-unless.ensures in
-    rw (p.1, p.2) (work_said (rings_of a.o) a.rule a.g a.len a.seed a.out.now a.stops.now (length a.w.now) few (leb-false (8 * points_of a.g) (length a.w.now) e.1) e.0, refl)
+    rw (p.1, p.2, e.0) (work_said (rings_of a.o) a.rule a.g a.len a.seed a.out.now a.stops.now (length a.w.now) few (leb-false (8 * points_of a.g) (length a.w.now) e.1), refl)
 
 pub sew-requires : goal.sew-requires
 sew-requires c = let a = c.args in (omega (arith, c.if-n-gt400000.false), leb-true (8 * points_of a.g) (length a.w.now) c.in_ok-unless.ensures)
@@ -40,4 +40,4 @@ pub returns : goal.returns
 returns c =
     let a = c.args in
     let few : points_of a.g ≤ most_points = omega (arith, c.if-n-gt400000.false) in
-    (sewn_said (rings_of a.o) a.rule a.g a.len a.seed a.out.now a.stops.now (length a.w.now) few (leb-true (8 * points_of a.g) (length a.w.now) c.in_ok-unless.ensures) c.sew.ensures.0, c.sew.ensures.1)
+    (sewn_said (rings_of a.o) a.rule a.g a.len a.seed a.out.now a.stops.now (length a.w.now) few (leb-true (8 * points_of a.g) (length a.w.now) c.in_ok-unless.ensures) c.sew.ensures.0.says c.sew.ensures.0.points c.sew.ensures.0.ends, c.sew.ensures.1)
