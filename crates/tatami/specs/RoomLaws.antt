@@ -1,5 +1,5 @@
 -- What each number of document 01 leaves, and which number a stage's findings give. Assumes nothing.
-use Rattle.std.specs.Prelude.{ℕ, ◌*◌, ◌/◌, ◌≤◌, ◌<◌, ◌≡◌, refl, Bool, true, false, ◌&&◌, List, map, leb, replicate, ℤ, Float, Result, Ok, Err}
+use Rattle.std.specs.Prelude.{ℕ, ◌*◌, ◌/◌, ◌≤◌, ◌<◌, ◌≡◌, refl, Bool, true, false, ◌&&◌, List, map, leb, replicate, ℤ, Float, Result, Ok, Err, Some, None}
 use Rattle.std.proofs.Common.{arith, sym, ap, ◌∙◌, subst, length-drop}
 use Rattle.std.proofs.Math.Bool.{and-false}
 use Rattle.std.proofs.Math.ListN.{length}
@@ -8,9 +8,8 @@ use borrow.Author.Tests.{le-ltb, le-leb, lt-leb, leb-true, ne_eqb}
 use Rattle.refusal.specs.Refusal.{DONE, ROOM}
 use Rattle.refusal.specs.Sewn.{output}
 use Rattle.seqs.specs.Lists.{upto}
-use Rattle.seqs.specs.Slices.{capped}
+use Rattle.sewing.specs.Within.{within, within_some, within_none}
 use Rattle.seqs.specs.Tests.{and_both}
-use Rattle.seqs.specs.Capped.{capped_exact, capped_past}
 use Rattle.seqs.specs.Upto.{upto_length}
 use Rattle.geom.specs.declared.point.P.{P}
 use Rattle.geom.specs.Outline.{rings}
@@ -76,18 +75,18 @@ module _ (ss : List (List P)) (points : List Float) (ends : List ℕ) where
   pub room_ends : length ends < length ss → sewn_room ss points ends ≡ ROOM
   room_ends h = rw (lt-leb (length ss) (length ends) h, and-false (leb (2 * length (sewn_points ss)) (length points)))
 
-  module _ {c : ℕ} (e : c ≡ capped (length points / 2) (length (sewn_points ss))) where
-    pub room_points : length points / 2 < c → sewn_room ss points ends ≡ ROOM
-    room_points h = rw (lt-leb (2 * length (sewn_points ss)) (length points) (omega (arith, capped_past (length points / 2) (length (sewn_points ss)) e h)))
+  pub room_points : None ≡ within (length points / 2) (length (sewn_points ss)) → sewn_room ss points ends ≡ ROOM
+  room_points e = rw (lt-leb (2 * length (sewn_points ss)) (length points) (omega (arith, within_none (length points / 2) (length (sewn_points ss)) e)))
 
-    pub points_are : c ≤ length points / 2 → c ≡ length (sewn_points ss)
-    points_are h = capped_exact (length points / 2) (length (sewn_points ss)) e h
+  module _ {c : ℕ} (e : Some c ≡ within (length points / 2) (length (sewn_points ss))) where
+    pub points_are : c ≡ length (sewn_points ss)
+    points_are = (within_some (length points / 2) (length (sewn_points ss)) e).0
 
-    pub points_fit : c ≤ length points / 2 → 2 * length (sewn_points ss) ≤ length points
-    points_fit h = omega (arith, points_are h)
+    pub points_fit : 2 * length (sewn_points ss) ≤ length points
+    points_fit = omega (arith, (within_some (length points / 2) (length (sewn_points ss)) e).1)
 
-    pub room_enough : c ≤ length points / 2 → length ss ≤ length ends → sewn_room ss points ends ≡ DONE
-    room_enough h k = rw (le-leb (2 * length (sewn_points ss)) (length points) (points_fit h), le-leb (length ss) (length ends) k)
+    pub room_enough : length ss ≤ length ends → sewn_room ss points ends ≡ DONE
+    room_enough k = rw (le-leb (2 * length (sewn_points ss)) (length points) points_fit, le-leb (length ss) (length ends) k)
 
 -- the row list's
 pub list_room_lem : (n a b c : ℕ) → list_fits n a b c ≡ true → (3 * n ≤ a) × (n ≤ b) × (n ≤ c)

@@ -56,10 +56,9 @@ fn sew(
     }
     let room = (points.len() / 2) as u64;
     let t = ready(f);
-    let n = count(pieces, numbers, &t, sections, room);
-    if n > room {
+    let Some(n) = count(pieces, numbers, &t, sections, room) else {
         return Err(Refusal::Room);
-    }
+    };
     write(points, stops, pieces, numbers, &t, sections);
     Ok(Filled {
         sections: sections as u64,

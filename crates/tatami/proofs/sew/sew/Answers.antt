@@ -1,5 +1,5 @@
 -- The room first, then the points. Assumes nothing.
-use mathlib.Core.Path.{refl, sym}
+use mathlib.Core.Path.{refl, sym, ◌∙◌}
 use native.Mathlib.Omega.{arith}
 use Rattle.geom.specs.SewingLaws.{flat_length}
 use Rattle.rules.specs.Calls.{sewn_points}
@@ -17,19 +17,19 @@ returns-then-sections-stops c =
 pub ready-t-requires : goal.ready-t-requires
 ready-t-requires c = c.requires.stagger
 
-pub returns-then-n-room : goal.returns-then-n-room
+pub returns-in_default : goal.returns-in_default
 unfolding sewn_points
-returns-then-n-room c =
+returns-in_default c =
     let a = c.args in
     let ss = sewn_in a.f a.sections a.pieces.now a.numbers.now in
-    rw (room_points ss a.points.now a.stops.now (rw c.ready-t.ensures at c.count-n.ensures) c.if-n-room.true) (refl, refl, refl)
+    rw (room_points ss a.points.now a.stops.now (sym c.in_default.is ∙ (rw c.ready-t.ensures at c.count.ensures))) (refl, refl, refl)
 
 pub write-requires : goal.write-requires
 unfolding sewn_points
 write-requires c =
     let a = c.args in
     let ss = sewn_in a.f a.sections a.pieces.now a.numbers.now in
-    rw c.ready-t.ensures (c.requires, omega (arith, flat_length (sewn_points ss), points_fit ss a.points.now a.stops.now (rw c.ready-t.ensures at c.count-n.ensures) c.if-n-room.false), c.if-sections-stops.false)
+    rw c.ready-t.ensures (c.requires, omega (arith, flat_length (sewn_points ss), points_fit ss a.points.now a.stops.now (sym c.in-Some.is ∙ (rw c.ready-t.ensures at c.count.ensures))), c.if-sections-stops.false)
 
 pub returns : goal.returns
 unfolding sewn_points
@@ -37,6 +37,6 @@ returns c =
     let a = c.args in
     let ss = sewn_in a.f a.sections a.pieces.now a.numbers.now in
     let many = sewn_count a.f a.sections a.pieces.now a.numbers.now in
-    let n = points_are ss a.points.now a.stops.now (rw c.ready-t.ensures at c.count-n.ensures) c.if-n-room.false in
-    rw (room_enough ss a.points.now a.stops.now (rw c.ready-t.ensures at c.count-n.ensures) c.if-n-room.false (omega (arith, many, c.if-sections-stops.false)))
+    let n = points_are ss a.points.now a.stops.now (sym c.in-Some.is ∙ (rw c.ready-t.ensures at c.count.ensures)) in
+    rw (room_enough ss a.points.now a.stops.now (sym c.in-Some.is ∙ (rw c.ready-t.ensures at c.count.ensures)) (omega (arith, many, c.if-sections-stops.false)))
     (λ i. record { answer = DONE; sections = sym many i; points = n i }, (rw c.ready-t.ensures at c.write.ensures.0), (rw c.ready-t.ensures at c.write.ensures.1))
