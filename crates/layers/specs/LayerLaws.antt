@@ -1,10 +1,12 @@
 -- One fill over a table that stands: the edges are its own, and what is laid is what a lone fill would lay. Assumes nothing.
-use Rattle.std.specs.Prelude.{ℕ, ◌*◌, ◌≤◌, ◌<◌, ◌≡◌, refl, Bool, true, false, cond, not, ◌||◌, List, ltb, Float}
+use Rattle.std.specs.Prelude.{ℕ, ◌*◌, ◌≤◌, ◌<◌, ◌≡◌, refl, Bool, true, false, cond, not, ◌||◌, List, ltb, Float, Result, Ok, Err, Option, Some, None}
 use Rattle.std.proofs.Common.{arith, ap, sym, ◌∙◌, subst}
 use Rattle.std.proofs.Math.Bool.{or-true}
 use Rattle.std.proofs.Math.ListN.{length}
 use borrow.Author.Tests.{lt-ltb, le-ltb, ltb-false}
-use Rattle.refusal.specs.Refusal.{DONE, SETTING, SIZE, WORK, ROOM}
+use Rattle.refusal.specs.declared.Refusal.{Refusal}
+use Rattle.refusal.specs.declared.Refusal.TheVariants.{Work}
+use Rattle.refusal.specs.Refusal.{number, DONE, SETTING, SIZE, WORK, ROOM}
 use Rattle.seqs.specs.Records.{Added}
 use Rattle.geom.specs.Outline.{rings}
 use Rattle.limits.specs.Limits.{most_rows, good_outline, good_numbers, good_turn}
@@ -23,12 +25,8 @@ use Rattle.finding.specs.FindLaws.{alone_count, few_edges, spans_rows}
 use Rattle.laying.specs.Laying.{Lent, Laid}
 use Rattle.laying.specs.LayingLaws.{laid_count, laid_floats, laid_counts}
 use Rattle.finding.specs.declared.find.Found.{Found}
-use Rattle.finding.specs.declared.find.Found.TheVariants.{Short, Held}
 use Rattle.tatami.specs.Stages.{Lent as Sewable, Handed, told, list_of}
 use Rattle.layers.specs.declared.Layer.{Layer}
-use Rattle.layers.specs.declared.table.Table.{Table}
-use Rattle.layers.specs.declared.table.Table.TheVariants.{Refused, Stands}
-use Rattle.layers.specs.declared.table.Table.TheVariants as prepared
 use Rattle.layers.specs.Layers.{turn_of, table_of, table_refusal, settings_of, layer_roomed}
 use Rattle.layers.specs.Stages.{Standing, Preparing, Prepared, found_of}
 
@@ -69,14 +67,14 @@ unfolding table_of
 table_added corners ends cosine sine h b = rw h at b
 
 -- what was prepared, once it is known which
-module _ (corners : List Float) (ends : List ℕ) (cosine sine : Float) (t : List Float) {t' : List Float} (places : ℕ) {r : Table} (h : Prepared corners ends cosine sine t t' places r) where
-  pub prepared_refused : {n : ℕ} → r ≡ Refused n → (table_refusal corners ends cosine sine (length t) places ≡ n) × (1 ≤ n) × (n ≤ 5) × (t' ≡ t)
+module _ (corners : List Float) (ends : List ℕ) (cosine sine : Float) (t : List Float) {t' : List Float} (places : ℕ) {r : Result (Option ℕ) Refusal} (h : Prepared corners ends cosine sine t t' places r) where
+  pub prepared_refused : {n : Refusal} → r ≡ Err n → (table_refusal corners ends cosine sine (length t) places ≡ number n) × (1 ≤ number n) × (number n ≤ 5) × (t' ≡ t)
   prepared_refused e = subst (Preparing corners ends cosine sine t t' places) e h.is
 
-  pub prepared_short : r ≡ prepared.Short → table_refusal corners ends cosine sine (length t) places ≡ WORK
+  pub prepared_short : r ≡ Ok None → table_refusal corners ends cosine sine (length t) places ≡ WORK
   prepared_short e = subst (Preparing corners ends cosine sine t t' places) e h.is
 
-  pub prepared_stands : {e : ℕ} → r ≡ Stands e → (table_refusal corners ends cosine sine (length t) places ≡ DONE) × Standing corners ends cosine sine e t' places
+  pub prepared_stands : {e : ℕ} → r ≡ Ok (Some e) → (table_refusal corners ends cosine sine (length t) places ≡ DONE) × Standing corners ends cosine sine e t' places
   prepared_stands e = subst (Preparing corners ends cosine sine t t' places) e h.is
 
 -- ---- one fill
@@ -128,13 +126,13 @@ module _ (corners : List Float) (ends : List ℕ) (t : Plan) where
             wholes = omega arith;
           }
 
-      module _ (sd : length d' ≡ length d) (sa : length a' ≡ length a) {found : Found} (is : found ≡ found_of n (length d') (length a')) where
+      module _ (sd : length d' ≡ length d) (sa : length a' ≡ length a) {found : Result Found Refusal} (is : found ≡ found_of n (length d') (length a')) where
         pub own_handed : Handed corners ends t d' a' found
         own_handed = rw is (go (ltb (length d') (4 * n)) refl (ltb (length a') (6 * n)) refl)
           where
-            go : (f : Bool) → ltb (length d') (4 * n) ≡ f → (w : Bool) → ltb (length a') (6 * n) ≡ w → Handed corners ends t d' a' (cond (f || w) Short (Held 0 n))
-            go true ef w ew = tt
-            go false ef true ew = tt
+            go : (f : Bool) → ltb (length d') (4 * n) ≡ f → (w : Bool) → ltb (length a') (6 * n) ≡ w → Handed corners ends t d' a' (cond {A = Result Found Refusal} (f || w) (Err Work) (Ok (record { edges = 0; pieces = n })))
+            go true ef w ew = refl
+            go false ef true ew = refl
             go false ef false ew =
                 let f = ltb-false (length d') (4 * n) ef in
                 let w = ltb-false (length a') (6 * n) ew in
@@ -144,6 +142,6 @@ module _ (corners : List Float) (ends : List ℕ) (t : Plan) where
         unfolding layer_roomed
         own_told fits = rw (is, ← sd, ← sa, ← own_count) (go (ltb (length d') (4 * n) || ltb (length a') (6 * n)))
           where
-            go : (b : Bool) → told (cond b Short (Held 0 n)) fits ≡ cond b WORK (cond (not fits) ROOM DONE)
+            go : (b : Bool) → told (cond {A = Result Found Refusal} b (Err Work) (Ok (record { edges = 0; pieces = n }))) fits ≡ cond b WORK (cond (not fits) ROOM DONE)
             go true = refl
             go false = sym (room_told fits)

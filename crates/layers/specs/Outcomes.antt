@@ -1,23 +1,22 @@
 -- What the stages found is all that the call leaves. Assumes nothing.
-use Rattle.std.specs.Prelude.{ℕ, ◌≤◌, ◌≡◌, Bool, List, length, replicate, Float}
+use Rattle.std.specs.Prelude.{ℕ, ◌≤◌, ◌≡◌, Bool, List, length, replicate, Float, Result, Err}
 use Rattle.std.proofs.Common.{arith, ◌∙◌, ne_eqb}
-use Rattle.std.proofs.Math.Path.{sym, ap, subst}
+use Rattle.std.proofs.Math.Path.{sym, ap}
 use Rattle.std.proofs.lemmas.List.{length-replicate}
-use Rattle.refusal.specs.Refusal.{DONE, WORK, ◌then◌}
+use Rattle.refusal.specs.declared.Refusal.{Refusal}
+use Rattle.refusal.specs.Refusal.{number, DONE, WORK, ◌then◌}
 use Rattle.numbers.specs.Num.{zero64}
 use Rattle.geom.specs.Outline.{rings}
 use Rattle.geom.specs.Sewing.{flat}
 use Rattle.outlines.specs.declared.rule.FillRule.{FillRule}
 use Rattle.rules.specs.declared.Settings.{Settings}
-use Rattle.rules.specs.Fill.{tatami}
+use Rattle.rules.specs.Fill.{tatami, gate}
 use Rattle.rules.specs.Calls.{worked, sewn_points, sewn_ends, sewn_fits}
 use Rattle.rules.specs.CallLaws.{gate_through}
 use Rattle.rules.specs.Accepted.{Accepted}
-use Rattle.finding.specs.declared.gate.Way.{Way}
-use Rattle.finding.specs.declared.gate.Way.TheVariants.{Refused}
-use Rattle.finding.specs.Stages.{Gated, Zeroed}
-use Rattle.tatami.specs.declared.Filled.{Filled}
-use Rattle.tatami.specs.Left.{Left, left, left_by}
+use Rattle.finding.specs.Stages.{Zeroed}
+use Rattle.tatami.specs.declared.Filled.{Filled as Sewn}
+use Rattle.tatami.specs.Left.{Filled, said_filled, Left, left, left_by}
 use Rattle.finding.specs.declared.find.Found.{Found}
 use Rattle.tatami.specs.Stages.{told}
 use Rattle.tatami.specs.RoomLaws.{counted_none, output_none, worked_none}
@@ -69,16 +68,17 @@ module _ (corners : List Float) (ends : List ℕ) (rule : FillRule) (g : Setting
 
   -- ---- the table stands
   module _ {e places : ℕ} {table : List Float} (s : Standing corners ends g.cosine g.sine e table places) where
-    pub layer_refused : {r : Way} (n : ℕ) → Gated corners ends g stagger r → r ≡ Refused n → left (nothing n) points stops floats wholes ≡ layer_left DONE corners ends rule g stagger upward points stops floats wholes
-    unfolding layer_left layer_refusal Gated
-    layer_refused n f is =
-        let h = subst (Gated corners ends g stagger) is f in
+    pub layer_refused : {r : Result Sewn Refusal} (e : Refusal) → r ≡ Err e → (gate corners ends g stagger DONE ≡ number e) × (1 ≤ number e) × (number e ≤ 5) → left (said_filled r) points stops floats wholes ≡ layer_left DONE corners ends rule g stagger upward points stops floats wholes
+    unfolding layer_left layer_refusal
+    layer_refused e is h =
+        rw is (
+        let n = number e in
         let ss = tatami (rings corners ends) rule g stagger upward in
         let rest = layer_roomed corners ends rule g upward (length floats) (length wholes) (sewn_fits ss (length points) (length stops)) in
         left_none n corners ends rule g stagger upward points floats stops wholes h.1 h.2
-        ∙ ap (λ n. left_by n ss points stops floats wholes) (sym (stopped corners ends g stagger n rest h.0 h.1) ∙ gate_own corners ends g stagger rest s)
+        ∙ ap (λ n. left_by n ss points stops floats wholes) (sym (stopped corners ends g stagger n rest h.0 h.1) ∙ gate_own corners ends g stagger rest s))
 
-    pub layer_done : (floats' : List Float) (wholes' : List ℕ) (found : Found) {l : Left} → Accepted corners ends g stagger → length floats' ≡ length floats → length wholes' ≡ length wholes
+    pub layer_done : (floats' : List Float) (wholes' : List ℕ) (found : Result Found Refusal) {l : Left} → Accepted corners ends g stagger → length floats' ≡ length floats → length wholes' ≡ length wholes
         → let ss = tatami (rings corners ends) rule g stagger upward in
         let fits = sewn_fits ss (length points) (length stops) in
         told found fits ≡ layer_roomed corners ends rule g upward (length floats) (length wholes) fits

@@ -3,8 +3,8 @@
 // The table is written while it is prepared and only then: the fills are lent it to be read. `places` is the sweep's scratch, one fill after the other. The table's slices are zero on the way out, as the fills' own working slices are.
 #![tactic(auto)]
 
-ghost use Rattle.std.specs.Prelude.{◌≡◌};
-ghost use Rattle.tatami.specs.Left.{left};
+ghost use Rattle.std.specs.Prelude.{◌≡◌, Err};
+ghost use Rattle.tatami.specs.Left.{said_filled, left};
 ghost use Rattle.layers.specs.Layers.{slices, twice, twice_left};
 ghost use Rattle.layers.specs.Stages.{Cleared};
 
@@ -12,10 +12,10 @@ pub mod one;
 pub mod table;
 pub mod two;
 
-use crate::table::{Table, prepare};
+use crate::table::prepare;
 use crate::two::fill_both;
 use outlines::FillRule;
-use refusal::WORK;
+use refusal::Refusal;
 use tatami::Filled;
 
 // What is a fill's own: `upward` is bottom up.
@@ -32,25 +32,17 @@ pub struct Layer {
 // What both fills say.
 #[derive(Clone, Copy)]
 pub struct Both {
-    pub first: Filled,
-    pub second: Filled,
+    pub first: Result<Filled, Refusal>,
+    pub second: Result<Filled, Refusal>,
 }
 
 // The table's refusal, given to both fills.
-fn refused(n: u64) -> Both
-    ensures { result ≡ record { first = record { answer = n; sections = 0; points = 0 }; second = record { answer = n; sections = 0; points = 0 } } }
+fn refused(e: Refusal) -> Both
+    ensures { (result.first ≡ Err e) × (result.second ≡ Err e) }
 {
     Both {
-        first: Filled {
-            answer: n,
-            sections: 0,
-            points: 0,
-        },
-        second: Filled {
-            answer: n,
-            sections: 0,
-            points: 0,
-        },
+        first: Err(e),
+        second: Err(e),
     }
 }
 
@@ -93,22 +85,21 @@ pub fn tatami_twice(
     floats2: &mut [f64],
     wholes2: &mut [usize],
 ) -> Both
-    ensures { twice (left result.first points.new stops.new floats.new wholes.new) (left result.second points2.new stops2.new floats2.new wholes2.new) table.new places.new ≡ twice_left corners.now ends.now rule cosine sine first second (slices points.old stops.old floats.old wholes.old) (slices points2.old stops2.old floats2.old wholes2.old) table.old places.old }
+    ensures { twice (left (said_filled result.first) points.new stops.new floats.new wholes.new) (left (said_filled result.second) points2.new stops2.new floats2.new wholes2.new) table.new places.new ≡ twice_left corners.now ends.now rule cosine sine first second (slices points.old stops.old floats.old wholes.old) (slices points2.old stops2.old floats2.old wholes2.old) table.old places.old }
 {
-    match prepare(corners, ends, cosine, sine, table, places.len()) {
-        Table::Refused(n) => refused(n),
-        Table::Short => {
-            clear(table, places, floats, wholes, floats2, wholes2);
-            refused(WORK)
-        }
-        Table::Stands(e) => {
-            let r = fill_both(
-                corners, ends, rule, cosine, sine, first, second, table, e, places, points, stops,
-                floats, wholes, points2, stops2, floats2, wholes2,
-            );
-            table.fill(0.0);
-            places.fill(0);
-            r
-        }
-    }
+    let prepared = match prepare(corners, ends, cosine, sine, table, places.len()) {
+        Ok(prepared) => prepared,
+        Err(e) => return refused(e),
+    };
+    let Some(e) = prepared else {
+        clear(table, places, floats, wholes, floats2, wholes2);
+        return refused(Refusal::Work);
+    };
+    let r = fill_both(
+        corners, ends, rule, cosine, sine, first, second, table, e, places, points, stops, floats,
+        wholes, points2, stops2, floats2, wholes2,
+    );
+    table.fill(0.0);
+    places.fill(0);
+    r
 }

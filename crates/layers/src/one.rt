@@ -1,28 +1,31 @@
 // One of the two fills, over a table that stands.
 ghost use Rattle.std.specs.Prelude.{◌≡◌, ◌≤◌, length};
 ghost use Rattle.refusal.specs.Refusal.{DONE};
-ghost use Rattle.tatami.specs.Left.{left};
+ghost use Rattle.tatami.specs.Left.{said_filled, left};
 ghost use Rattle.layers.specs.Layers.{layer_left};
 ghost use Rattle.layers.specs.Stages.{Standing, found_of};
 
-use finding::Plan;
 use finding::find::Found;
-use finding::gate::{Way, gate};
+use finding::gate::plan;
 use laying::lay;
 use outlines::FillRule;
+use refusal::Refusal;
 use rules::Settings;
 use tatami::Filled;
 use tatami::sew::sew_found;
 
 // What was found of n pieces, with no edge in front of them.
-fn found_of(n: usize, floats: usize, wholes: usize) -> Found
+fn found_of(n: usize, floats: usize, wholes: usize) -> Result<Found, Refusal>
     requires { n ≤ 2097152 }
     ensures { result ≡ found_of n floats wholes }
 {
     if floats < 4 * n || wholes < 6 * n {
-        Found::Short
+        Err(Refusal::Work)
     } else {
-        Found::Held(0, n)
+        Ok(Found {
+            edges: 0,
+            pieces: n,
+        })
     }
 }
 
@@ -41,27 +44,14 @@ pub fn fill_layer(
     stops: &mut [usize],
     floats: &mut [f64],
     wholes: &mut [usize],
-) -> Filled
+) -> Result<Filled, Refusal>
     requires { Standing corners.now ends.now g.cosine g.sine e table.now (length places.old) }
-    ensures { left result points.new stops.new floats.new wholes.new ≡ layer_left DONE corners.now ends.now rule g stagger upward points.old stops.old floats.old wholes.old }
+    ensures { left (said_filled result) points.new stops.new floats.new wholes.new ≡ layer_left DONE corners.now ends.now rule g stagger upward points.old stops.old floats.old wholes.old }
 {
-    match gate(corners, ends, g, stagger) {
-        Way::Refused(n) => Filled {
-            answer: n,
-            sections: 0,
-            points: 0,
-        },
-        Way::Open(w) => {
-            let t = Plan {
-                rule,
-                g,
-                stagger,
-                upward,
-                rows: w,
-            };
-            let n = lay(table, e, places, rule, g, upward, w, floats, wholes);
-            let found = found_of(n, floats.len(), wholes.len());
-            sew_found(corners, ends, t, found, points, stops, floats, wholes)
-        }
-    }
+    let t = plan(corners, ends, rule, g, stagger, upward)?;
+    let n = lay(
+        table, e, places, t.rule, t.g, t.upward, t.rows, floats, wholes,
+    );
+    let found = found_of(n, floats.len(), wholes.len());
+    sew_found(t, found, points, stops, floats, wholes)
 }

@@ -4,17 +4,9 @@ ghost use Rattle.layers.specs.Layers.{turn_of};
 ghost use Rattle.layers.specs.Stages.{Prepared};
 
 use edges::build;
-use limits::{good_numbers, good_outline, good_turn};
-use refusal::{LAYOUT, NUMBER, TURN};
+use limits::{good_numbers, good_turn, outline};
+use refusal::Refusal;
 use rules::Settings;
-
-// One of 1, 2 and 4; a slice that is too short; or how many edges stand.
-#[derive(Clone, Copy)]
-pub enum Table {
-    Refused(u64),
-    Short,
-    Stands(usize),
-}
 
 // The settings that the table asks for: a fill's own don't count.
 fn turn_of(cosine: f64, sine: f64) -> Settings
@@ -30,7 +22,7 @@ fn turn_of(cosine: f64, sine: f64) -> Settings
     }
 }
 
-// The kept edges to `table`, where the sweep has `places` whole numbers of its own.
+// The kept edges to `table`, where the sweep has `places` whole numbers of its own: how many stand, or none where a slice is too short. 1, 2 and 4 leave the table as it was.
 pub fn prepare(
     corners: &[f64],
     ends: &[usize],
@@ -38,24 +30,22 @@ pub fn prepare(
     sine: f64,
     table: &mut [f64],
     places: usize,
-) -> Table
+) -> Result<Option<usize>, Refusal>
     ensures { Prepared corners.now ends.now cosine sine table.old table.new places result }
 {
-    if !good_outline(corners, ends) {
-        return Table::Refused(LAYOUT);
-    }
+    let o = outline(corners, ends)?;
     if !good_numbers(corners) {
-        return Table::Refused(NUMBER);
+        return Err(Refusal::Number);
     }
     if !good_turn(cosine, sine) {
-        return Table::Refused(TURN);
+        return Err(Refusal::Turn);
     }
-    let e = build(corners, ends, turn_of(cosine, sine), table);
+    let e = build(o, turn_of(cosine, sine), table);
     if table.len() < 6 * e {
-        return Table::Short;
+        return Ok(None);
     }
     if places < 4 * e {
-        return Table::Short;
+        return Ok(None);
     }
-    Table::Stands(e)
+    Ok(Some(e))
 }

@@ -1,7 +1,7 @@
 // Both fills, one after the other, over a table that stands.
 ghost use Rattle.std.specs.Prelude.{◌≡◌, length};
 ghost use Rattle.refusal.specs.Refusal.{DONE};
-ghost use Rattle.tatami.specs.Left.{left};
+ghost use Rattle.tatami.specs.Left.{said_filled, left};
 ghost use Rattle.layers.specs.Layers.{settings_of, layer_left};
 ghost use Rattle.layers.specs.Stages.{Standing};
 
@@ -45,8 +45,8 @@ pub fn fill_both(
     wholes2: &mut [usize],
 ) -> Both
     requires { Standing corners.now ends.now cosine sine e table.now (length places.old) }
-    ensures wholes_after { left result.first points.new stops.new floats.new wholes.new ≡ layer_left DONE corners.now ends.now rule (settings_of first cosine sine) first.stagger first.upward points.old stops.old floats.old wholes.old }
-    ensures wholes2_after { left result.second points2.new stops2.new floats2.new wholes2.new ≡ layer_left DONE corners.now ends.now rule (settings_of second cosine sine) second.stagger second.upward points2.old stops2.old floats2.old wholes2.old }
+    ensures wholes_after { left (said_filled result.first) points.new stops.new floats.new wholes.new ≡ layer_left DONE corners.now ends.now rule (settings_of first cosine sine) first.stagger first.upward points.old stops.old floats.old wholes.old }
+    ensures wholes2_after { left (said_filled result.second) points2.new stops2.new floats2.new wholes2.new ≡ layer_left DONE corners.now ends.now rule (settings_of second cosine sine) second.stagger second.upward points2.old stops2.old floats2.old wholes2.old }
 {
     let g = settings_of(first, cosine, sine);
     let a = fill_layer(

@@ -1,35 +1,29 @@
-use mathlib.Core.Path.{◌∙◌}
+use Rattle.std.proofs.Common.{◌∙◌, ap, Ok, length, rules}
 use lib.Ieee.{of_bits}
-use lib.ListN.{length}
 use Rattle.layers.specs.Layers.{slices}
 use Rattle.layers.specs.LayerLaws.{prepared_refused, prepared_short, prepared_stands}
 use Rattle.layers.specs.Outcomes.{zeroed_length, twice_refused, twice_short, twice_done}
-use borrow.Author.Rules.{rules}
 use Rattle.layers.proofs.tatami_twice.Goals as goal
 
 pub fill_both-r-requires : goal.fill_both-r-requires
-fill_both-r-requires c = let a = c.args in (prepared_stands a.corners.now a.ends.now a.cosine a.sine a.table.now (length a.places.now) c.prepare.ensures c.in-Stands.is).1
+fill_both-r-requires c = let a = c.args in (prepared_stands a.corners.now a.ends.now a.cosine a.sine a.table.now (length a.places.now) c.prepare.ensures (c.in-Ok.is ∙ ap Ok c.in-Some.is)).1
 
-pub returns-in-Refused : goal.returns-in-Refused
-returns-in-Refused c =
+pub returns-in-Err : goal.returns-in-Err
+returns-in-Err c =
     let a = c.args in
-    let p = prepared_refused a.corners.now a.ends.now a.cosine a.sine a.table.now (length a.places.now) c.prepare.ensures c.in-Refused.is in
-    rw c.refused.ensures (twice_refused a.corners.now a.ends.now a.rule a.cosine a.sine a.first a.second (slices a.points.now a.stops.now a.floats.now a.wholes.now) (slices a.points2.now a.stops2.now a.floats2.now a.wholes2.now) a.table.now a.places.now _ p.0 p.1 p.2 p.3)
+    let p = prepared_refused a.corners.now a.ends.now a.cosine a.sine a.table.now (length a.places.now) c.prepare.ensures c.in-Err.is in
+    rw (c.refused.ensures.0, c.refused.ensures.1) (twice_refused a.corners.now a.ends.now a.rule a.cosine a.sine a.first a.second (slices a.points.now a.stops.now a.floats.now a.wholes.now) (slices a.points2.now a.stops2.now a.floats2.now a.wholes2.now) a.table.now a.places.now _ p.0 p.1 p.2 p.3)
 
-pub returns-in-Short : goal.returns-in-Short
-returns-in-Short c =
+pub returns-in_default : goal.returns-in_default
+returns-in_default c =
     let a = c.args in
-    let p = prepared_short a.corners.now a.ends.now a.cosine a.sine a.table.now (length a.places.now) c.prepare.ensures c.in-Short.is in
+    let p = prepared_short a.corners.now a.ends.now a.cosine a.sine a.table.now (length a.places.now) c.prepare.ensures (c.in-Ok.is ∙ ap Ok c.in_default.is) in
     let z = c.clear.ensures in
-    rw c.refused-in-Short.ensures (twice_short a.corners.now a.ends.now a.rule a.cosine a.sine a.first a.second (slices a.points.now a.stops.now a.floats.now a.wholes.now) (slices a.points2.now a.stops2.now a.floats2.now a.wholes2.now) a.table.now a.places.now z.table (zeroed_length z.table ∙ c.prepare.ensures.size) z.places (zeroed_length z.places) p z.floats (zeroed_length z.floats) z.wholes (zeroed_length z.wholes) z.floats2 (zeroed_length z.floats2) z.wholes2 (zeroed_length z.wholes2))
+    rw (c.refused-in_default.ensures.0, c.refused-in_default.ensures.1) (twice_short a.corners.now a.ends.now a.rule a.cosine a.sine a.first a.second (slices a.points.now a.stops.now a.floats.now a.wholes.now) (slices a.points2.now a.stops2.now a.floats2.now a.wholes2.now) a.table.now a.places.now z.table (zeroed_length z.table ∙ c.prepare.ensures.size) z.places (zeroed_length z.places) p z.floats (zeroed_length z.floats) z.wholes (zeroed_length z.wholes) z.floats2 (zeroed_length z.floats2) z.wholes2 (zeroed_length z.wholes2))
 
-pub shape_of-table-in-Stands : goal.shape_of-table-in-Stands
+pub returns : goal.returns
 unfolding of_bits
-shape_of-table-in-Stands c = zeroed_length (record { is = c.fill.ensures.after (search rules) }) ∙ c.prepare.ensures.size
-
-pub returns-in-Stands : goal.returns-in-Stands
-unfolding of_bits
-returns-in-Stands c =
+returns c =
     let a = c.args in
-    let p = prepared_stands a.corners.now a.ends.now a.cosine a.sine a.table.now (length a.places.now) c.prepare.ensures c.in-Stands.is in
-    twice_done a.corners.now a.ends.now a.rule a.cosine a.sine a.first a.second (slices a.points.now a.stops.now a.floats.now a.wholes.now) (slices a.points2.now a.stops2.now a.floats2.now a.wholes2.now) a.table.now a.places.now (record { is = c.fill.ensures.after (search rules) }) (zeroed_length (record { is = c.fill.ensures.after (search rules) }) ∙ c.prepare.ensures.size) (record { is = c.fill-in-Stands.ensures.after (search rules) }) (search rules) p.0 c.fill_both-r.ensures.wholes_after c.fill_both-r.ensures.wholes2_after
+    let p = prepared_stands a.corners.now a.ends.now a.cosine a.sine a.table.now (length a.places.now) c.prepare.ensures (c.in-Ok.is ∙ ap Ok c.in-Some.is) in
+    twice_done a.corners.now a.ends.now a.rule a.cosine a.sine a.first a.second (slices a.points.now a.stops.now a.floats.now a.wholes.now) (slices a.points2.now a.stops2.now a.floats2.now a.wholes2.now) a.table.now a.places.now (record { is = c.fill.ensures.after (search rules) }) (zeroed_length (record { is = c.fill.ensures.after (search rules) }) ∙ c.prepare.ensures.size) (record { is = c.fill-2.ensures.after (search rules) }) (search rules) p.0 c.fill_both-r.ensures.wholes_after c.fill_both-r.ensures.wholes2_after
