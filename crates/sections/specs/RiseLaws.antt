@@ -203,7 +203,7 @@ module _ (l : List Float) (r s : ℕ) (up : Rising l r s) (o : Piece) (j : ℕ) 
   pub meets_blocked : {a : Bool} → a ≡ not (ltb r j && under l o (j - 1)) → a ≡ false → false ≡ eqb (count_of (under l o) r s) 1
   meets_blocked ea t = let h = and_both (ltb r j) (under l o (j - 1)) (not-false _ (sym ea ∙ t)) in meets_left (ltb-true r j h.0) h.1
 
--- ---- a search: those from `from` on, before lo, end at x or before, and those from hi on, before `to`, reach past it
+-- ---- bisection: what is known of the places from `from` up to `to`, of which those from lo up to hi are left
 
 pub record Between (l : List Float) (x : Float) (from to lo hi : ℕ) : Type 0 where
   pub low : from ≤ lo
@@ -211,6 +211,25 @@ pub record Between (l : List Float) (x : Float) (from to lo hi : ℕ) : Type 0 w
   pub high : hi ≤ to
   pub before : (u : ℕ) → from ≤ u → u < lo → lt x (xb_at l u) ≡ false
   pub after : (u : ℕ) → hi ≤ u → u < to → lt x (xb_at l u) ≡ true
+
+module _ (l : List Float) (from to : ℕ) where
+  pub between_all : (x : Float) → from ≤ to → Between l x from to from to
+  between_all x h = record { low = omega arith; order = h; high = omega arith; before = λ u a b. absurd (omega arith); after = λ u a b. absurd (omega arith) }
+
+  module _ (up : Rising l from to) (x : Float) (lo hi mid : ℕ) (k : Between l x from to lo hi) (a : lo ≤ mid) (b : mid < hi) where
+    pub between_left : lt x (xb_at l mid) ≡ true → Between l x from to lo mid
+    between_left e = record { low = k.low; order = a; high = omega (arith, k.high); before = k.before; after = λ u c d. go u c d (u - mid) refl }
+      where
+        go : (u : ℕ) → mid ≤ u → u < to → (j : ℕ) → u - mid ≡ j → lt x (xb_at l u) ≡ true
+        go u c d zero q = let z : u ≡ mid = omega arith in rw z e
+        go u c d (suc j) q = past_after l from to up x mid u (omega (arith, k.low)) (omega arith) d e
+
+    pub between_right : lt x (xb_at l mid) ≡ false → Between l x from to (mid + 1) hi
+    between_right e = record { low = omega (arith, k.low); order = omega arith; high = k.high; before = λ u c d. go u c d (mid - u) refl; after = k.after }
+      where
+        go : (u : ℕ) → from ≤ u → u < mid + 1 → (j : ℕ) → mid - u ≡ j → lt x (xb_at l u) ≡ false
+        go u c d zero q = let z : u ≡ mid = omega arith in rw z e
+        go u c d (suc j) q = left_before l from to up x mid u c (omega arith) (omega (arith, k.high)) e
 
 -- ---- what j joins, by the only place that it overlaps
 

@@ -1,10 +1,24 @@
 -- Where a row ends, the rows one after the other, and what stands in a slice from some place on. Assumes nothing.
-use Rattle.std.specs.Prelude.{Bool, true, false, cond, ℕ, ◌+◌, ◌-◌, ◌≤◌, ◌<◌, ◌≡◌, refl, List, [], ◌∷◌, map, eqb, length, get_or, take, drop, Float}
+use Rattle.std.specs.Prelude.{Bool, true, false, cond, ℕ, ◌+◌, ◌-◌, ◌≤◌, ◌<◌, ◌≡◌, ◌≢◌, refl, List, [], ◌∷◌, map, eqb, length, get_or, take, drop, Float}
 use Rattle.std.specs.List.{prefix_len}
 use Rattle.std.proofs.Common.{arith, sym, ap, ◌∙◌, get_or-drop, drop-drop}
+use borrow.Author.Tests.{eq-eqb, ne_eqb}
 use Rattle.seqs.specs.Lists.{upto, take_while}
-use Rattle.seqs.specs.Reads.{drop_take, fuel_more, fuel_none}
+use Rattle.seqs.specs.Reads.{part_next, part_none, drop_take, fuel_more, fuel_none}
 use Rattle.sections.specs.Mark.{piece_in, row_end, rows_in}
+
+module _ (w : List ℕ) (n i r : ℕ) (room : n ≤ length w) where
+  pub row_more : i < n → get_or w i 0 ≡ r → row_end w n i r ≡ row_end w n (i + 1) r
+  unfolding row_end
+  row_more h e = rw (part_next w n i 0 h room, eq-eqb (get_or w i 0) r e) (omega arith)
+
+  pub row_stop : i < n → get_or w i 0 ≢ r → row_end w n i r ≡ i
+  unfolding row_end
+  row_stop h e = rw (part_next w n i 0 h room, ne_eqb (get_or w i 0) r e) (omega arith)
+
+  pub row_done : n ≤ i → row_end w n i r ≡ i
+  unfolding row_end
+  row_done h = rw (part_none w n i h room) (omega arith)
 
 while_length : {A : Type 0} (p : A → Bool) (xs : List A) → length (take_while p xs) ≡ prefix_len p xs
 while_length p [] = refl
