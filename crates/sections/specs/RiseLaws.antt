@@ -203,7 +203,7 @@ module _ (l : List Float) (r s : ℕ) (up : Rising l r s) (o : Piece) (j : ℕ) 
   pub meets_blocked : {a : Bool} → a ≡ not (ltb r j && under l o (j - 1)) → a ≡ false → false ≡ eqb (count_of (under l o) r s) 1
   meets_blocked ea t = let h = and_both (ltb r j) (under l o (j - 1)) (not-false _ (sym ea ∙ t)) in meets_left (ltb-true r j h.0) h.1
 
--- ---- bisection: what is known of the places from `from` up to `to`, of which those from lo up to hi are left
+-- ---- a search: what is known of the places from `from` up to `to`, of which those from lo up to hi are left
 
 pub record Between (l : List Float) (x : Float) (from to lo hi : ℕ) : Type 0 where
   pub low : from ≤ lo
