@@ -1,14 +1,11 @@
 -- `scan` meets its contract: what the file answers from record r on is what it answers. Assumes nothing.
-use mathlib.Core.Path.{◌≡◌, refl, sym, ◌∙◌}
+use mathlib.Core.Path.{◌≡◌, sym, ◌∙◌}
 use Prim.Native.Nat.{◌/◌}
 use native.Mathlib.Omega.{arith}
 use lib.ListN.{length}
 use Rattle.dst_read.specs.ReadingLaws.{verdict_end, verdict_size, verdict_bad, verdict_next, verdict_cut}
 use borrow.Author.Rules.{rules}
 use Rattle.dst_read.proofs.scan.scan.Goals as goal
-
-pub loop-r-init : goal.loop-r-init
-loop-r-init c = refl
 
 pub returns-then-is_end : goal.returns-then-is_end
 returns-then-is_end c = verdict_end c.args.bytes.now c.loop-r.r (search rules) c.at-record.result.a c.at-record.result.b c.at-record.result.c c.at-record.ensures.0 c.at-record.ensures.1 c.at-record.ensures.2 (sym c.is_end.ensures ∙ c.if-is_end.true) ∙ c.loop-r.invariant

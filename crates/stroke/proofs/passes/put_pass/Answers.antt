@@ -2,7 +2,6 @@
 use native.Mathlib.Omega.{arith}
 use Rattle.seqs.specs.Front.{front_from, front_at}
 use Rattle.seqs.specs.Wrote.{put_end}
-use Rattle.seqs.specs.Reverse.{place_below}
 use Rattle.geom.specs.Sewing.{flat}
 use Rattle.geom.specs.SewingLaws.{flat_none, flat_length}
 use Rattle.stroke.specs.Running.{pass, standing}
@@ -17,20 +16,8 @@ loop-r-init c =
     let a = c.args in
     (search rules, front_from a.out.now (flat (pass (standing a.out.now a.n) a.back)) a.k (omega (arith, c.requires)))
 
-pub overflow_mul-place : goal.overflow_mul-place
-overflow_mul-place c = omega (arith, c.place.ensures, place_below c.args.back c.loop-r.r c.args.n (search rules), c.requires, c.loop-r.invariant.1.len)
-
-pub corner-p-requires : goal.corner-p-requires
-corner-p-requires c = omega (arith, c.place.ensures, place_below c.args.back c.loop-r.r c.args.n (search rules), c.requires, c.loop-r.invariant.1.len)
-
 pub put_point-requires : goal.put_point-requires
 put_point-requires c =
-    let a = c.args in
-    let l = c.loop-r in
-    omega (arith, pass_room a.k a.n a.back l.r l.invariant.1 c.requires.0 c.requires.1 l.invariant.0 (search rules))
-
-pub overflow_add-at : goal.overflow_add-at
-overflow_add-at c =
     let a = c.args in
     let l = c.loop-r in
     omega (arith, pass_room a.k a.n a.back l.r l.invariant.1 c.requires.0 c.requires.1 l.invariant.0 (search rules))
@@ -41,9 +28,6 @@ loop-r-preserved c =
     let l = c.loop-r in
     let e = rw (c.corner-p.ensures, c.place.ensures) at c.put_point.ensures in
     (search rules, pass_step a.k a.n a.back l.r l.invariant.1 c.requires.0 c.requires.1 l.invariant.0 (search rules) _ e)
-
-pub shape_of-out : goal.shape_of-out
-shape_of-out c = c.loop-r.invariant.1.len
 
 pub returns : goal.returns
 returns c =
