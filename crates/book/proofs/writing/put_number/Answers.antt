@@ -7,16 +7,10 @@ use Rattle.book.proofs.writing.put_number.Goals as goal
 pub loop-i-init : goal.loop-i-init
 loop-i-init c = back_start _ _ _ _
 
-pub bounds-out-at : goal.bounds-out-at
-bounds-out-at c = omega (arith, c.loop-i.invariant.size)
-
 pub loop-i-preserved : goal.loop-i-preserved
 loop-i-preserved c =
     let l = c.loop-i in
     back_turn l.rest l.i (omega arith) (omega arith) l.invariant
-
-pub shape_of-out : goal.shape_of-out
-shape_of-out c = c.loop-i.invariant.size
 
 pub returns : goal.returns
 returns c =
