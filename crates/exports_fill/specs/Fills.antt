@@ -2,8 +2,7 @@
 use Rattle.std.specs.Prelude.{ℕ, Bool, Float}
 use Rattle.rules.specs.declared.Settings.{Settings}
 use Rattle.layers.specs.declared.Layer.{Layer}
-use Rattle.tatami.specs.declared.Filled.{Filled}
-use Rattle.tatami.specs.declared.Listed.{Listed}
+use Rattle.tatami.specs.Left.{Filled, Listed}
 
 abbrev pub settings : Float → Float → Float → Float → Float → Float → Settings
 settings spacing len inset pull cosine sine = record { spacing = spacing; len = len; inset = inset; pull = pull; cosine = cosine; sine = sine }

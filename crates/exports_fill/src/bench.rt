@@ -5,6 +5,7 @@ ghost use Rattle.plain.specs.Plain.{plain_tatami_left, plain_row_list_left};
 ghost use Rattle.exports.specs.Stored.{rule_of};
 ghost use Rattle.exports_fill.specs.Fills.{settings, filled, listed};
 
+use crate::fill::{store_filled, store_listed};
 use exports::shape::rule_of;
 use rules::Settings;
 
@@ -42,9 +43,7 @@ pub extern "C" fn beahcerot_plain_tatami(
     let r = plain::tatami(
         corners, ends, rule, g, stagger, upward, points, stops, floats, wholes,
     );
-    *sections = r.sections;
-    *count = r.points;
-    r.answer
+    store_filled(r, sections, count)
 }
 
 #[unsafe(no_mangle)]
@@ -81,6 +80,5 @@ pub extern "C" fn beahcerot_plain_row_list(
     let r = plain::row_list(
         corners, ends, rule, g, stagger, upward, ys, rows, sections, floats, wholes,
     );
-    *pieces = r.pieces;
-    r.answer
+    store_listed(r, pieces)
 }

@@ -7,6 +7,7 @@ ghost use Rattle.desk.specs.Desk2.{job2_left};
 ghost use Rattle.exports.specs.Stored.{rule_of};
 ghost use Rattle.exports_fill.specs.Fills.{filled, layer};
 
+use crate::fill::store_filled;
 use desk::two::fill_job2;
 use exports::shape::rule_of;
 use layers::{Layer, tatami_twice};
@@ -69,14 +70,8 @@ pub extern "C" fn beahcerot_tatami_twice(
         corners, ends, rule, cosine, sine, first, second, table, places, points, stops, floats,
         wholes, points2, stops2, floats2, wholes2,
     );
-    let a = r.first;
-    let b = r.second;
-    *sections = a.sections;
-    *count = a.points;
-    *answer2 = b.answer;
-    *sections2 = b.sections;
-    *count2 = b.points;
-    a.answer
+    *answer2 = store_filled(r.second, sections2, count2);
+    store_filled(r.first, sections, count)
 }
 
 // A version 2 job by its bytes; its outline goes to the front of `corners` and `ends`.
@@ -109,12 +104,6 @@ pub extern "C" fn beahcerot_fill_job2(
         bytes, corners, ends, table, places, points, stops, floats, wholes, points2, stops2,
         floats2, wholes2,
     );
-    let a = both.first;
-    let b = both.second;
-    *sections = a.sections;
-    *count = a.points;
-    *answer2 = b.answer;
-    *sections2 = b.sections;
-    *count2 = b.points;
-    a.answer
+    *answer2 = store_filled(both.second, sections2, count2);
+    store_filled(both.first, sections, count)
 }

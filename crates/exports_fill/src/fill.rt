@@ -1,6 +1,6 @@
 // The fill: a call answers document 01's number, and stores how many sections, points or pieces it wrote, none after a refusal.
 ghost use Rattle.std.specs.Prelude.{◌≡◌, length};
-ghost use Rattle.tatami.specs.Left.{left, left_list, tatami_left, row_list_left};
+ghost use Rattle.tatami.specs.Left.{said_filled, said_listed, left, left_list, tatami_left, row_list_left};
 ghost use Rattle.exports.specs.Stored.{rule_of};
 ghost use Rattle.fillroom.specs.Room.{room_of};
 ghost use Rattle.exports_fill.specs.Fills.{settings, filled, listed};
@@ -8,9 +8,37 @@ ghost use Rattle.jobs.specs.Job.{parsed, corners as Job·corners, ends as Job·e
 ghost use Rattle.desk.specs.Desk.{job_left};
 
 use desk::fill_job;
+use exports::line::store_count;
 use exports::shape::rule_of;
 use fillroom::fill_room;
+use refusal::Refusal;
 use rules::Settings;
+use tatami::Filled;
+
+// The answer's number; a refusal counts no section and no point.
+pub fn store_filled(r: Result<Filled, Refusal>, sections: &mut u64, count: &mut u64) -> u64
+    ensures { filled result sections.new count.new ≡ said_filled r }
+{
+    match r {
+        Ok(f) => {
+            *sections = f.sections;
+            *count = f.points;
+            0
+        }
+        Err(e) => {
+            *sections = 0;
+            *count = 0;
+            u64::from(e)
+        }
+    }
+}
+
+// The same of a list's pieces.
+pub fn store_listed(r: Result<u64, Refusal>, pieces: &mut u64) -> u64
+    ensures { listed result pieces.new ≡ said_listed r }
+{
+    store_count(r, pieces)
+}
 
 #[unsafe(no_mangle)]
 pub extern "C" fn beahcerot_tatami(
@@ -46,9 +74,7 @@ pub extern "C" fn beahcerot_tatami(
     let r = tatami::tatami(
         corners, ends, rule, g, stagger, upward, points, stops, floats, wholes,
     );
-    *sections = r.sections;
-    *count = r.points;
-    r.answer
+    store_filled(r, sections, count)
 }
 
 #[unsafe(no_mangle)]
@@ -85,8 +111,7 @@ pub extern "C" fn beahcerot_row_list(
     let r = tatami::row_list(
         corners, ends, rule, g, stagger, upward, ys, rows, sections, floats, wholes,
     );
-    *pieces = r.pieces;
-    r.answer
+    store_listed(r, pieces)
 }
 
 // Working room that is always enough: how many floats and whole numbers, none after a refusal.
@@ -114,10 +139,18 @@ pub extern "C" fn beahcerot_fill_room(
         cosine,
         sine,
     };
-    let r = fill_room(corners, ends, g, stagger);
-    *floats = r.floats;
-    *wholes = r.wholes;
-    r.answer
+    match fill_room(corners, ends, g, stagger) {
+        Ok(r) => {
+            *floats = r.floats;
+            *wholes = r.wholes;
+            0
+        }
+        Err(e) => {
+            *floats = 0;
+            *wholes = 0;
+            u64::from(e)
+        }
+    }
 }
 
 // A whole job by its bytes; its outline goes to the front of `corners` and `ends`.
@@ -138,7 +171,5 @@ pub extern "C" fn beahcerot_fill_job(
     ensures ends_after { ends.new ≡ Job·left (parsed bytes.now (length corners.old) (length ends.old)) (Job·ends bytes.now) ends.old }
 {
     let r = fill_job(bytes, corners, ends, points, stops, floats, wholes);
-    *sections = r.sections;
-    *count = r.points;
-    r.answer
+    store_filled(r, sections, count)
 }

@@ -1,5 +1,0 @@
-use borrow.Author.Rules.{rules}
-use Rattle.exports_fill.proofs.fill.beahcerot_row_list.Goals as goal
-
-pub returns : goal.returns
-returns c = rw c.rule_of-rule.ensures at c.row_list-r.ensures

@@ -1,5 +1,0 @@
-use borrow.Author.Rules.{rules}
-use Rattle.exports_fill.proofs.fill.beahcerot_tatami.Goals as goal
-
-pub returns : goal.returns
-returns c = rw c.rule_of-rule.ensures at c.tatami-r.ensures
