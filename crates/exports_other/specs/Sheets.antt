@@ -2,8 +2,7 @@
 use Rattle.std.specs.Prelude.{ℕ, Float}
 use Rattle.refusal.specs.Refusal.{Answer, done, refused}
 use Rattle.book.specs.declared.values.Values.{Values}
-use Rattle.book.specs.declared.fetching.Fetched.{Fetched}
-use Rattle.book.specs.declared.fetching.Fetched.TheVariants.{Sheet, Refused}
+use Rattle.book.specs.Fetched.{Fetched, Sheet, Refused}
 
 abbrev pub values : Float → Float → Float → Float → ℕ → Values
 values spacing len inset pull stagger = record { spacing = spacing; len = len; inset = inset; pull = pull; stagger = stagger }

@@ -2,10 +2,12 @@
 // of 0 is none; a style is 0 for plain, 1 for the s form and any other number for zigzag.
 ghost use Rattle.std.specs.Prelude.{◌≡◌, length};
 ghost use Rattle.satinrules.specs.Calls.{split_sewn, split_output, s_stitch_sewn, s_stitch_output, pairs_sewn, pairs_output, pairs_work, column_sewn, column_output, column_work};
-ghost use Rattle.satinroom.specs.Room.{pairs_room_of, column_room_of};
+ghost use Rattle.satinroom.specs.Room.{said_room, pairs_room_of, column_room_of};
 ghost use Rattle.halves.specs.Answers.{underlay_said, underlay_output, underlay_work, top_sewn, top_output, top_work};
 ghost use Rattle.exports_other.specs.Borders.{style_of, satin_of};
 
+use exports::line::store_count;
+use refusal::Refusal;
 use satinroom::{column_room, pairs_room};
 use satinrules::{Satin, Style, split_of};
 
@@ -18,18 +20,14 @@ pub extern "C" fn beahcerot_split_long(
 ) -> u64
     ensures { (result ≡ (split_sewn line.now max (length out.old)).answer) × (count.new ≡ (split_sewn line.now max (length out.old)).points) × (out.new ≡ split_output line.now max out.old) }
 {
-    let r = satin::split_long(line, max, out);
-    *count = r.points;
-    r.answer
+    store_count(satin::split_long(line, max, out), count)
 }
 
 #[unsafe(no_mangle)]
 pub extern "C" fn beahcerot_s_stitch(line: &[f64], out: &mut [f64], count: &mut u64) -> u64
     ensures { (result ≡ (s_stitch_sewn line.now (length out.old)).answer) × (count.new ≡ (s_stitch_sewn line.now (length out.old)).points) × (out.new ≡ s_stitch_output line.now out.old) }
 {
-    let r = satin::s_stitch(line, out);
-    *count = r.points;
-    r.answer
+    store_count(satin::s_stitch(line, out), count)
 }
 
 #[unsafe(no_mangle)]
@@ -44,9 +42,14 @@ pub extern "C" fn beahcerot_pairs(
 ) -> u64
     ensures { (result ≡ (pairs_sewn a.now b.now sync.now step (length work.old) (length out.old)).answer) × (count.new ≡ (pairs_sewn a.now b.now sync.now step (length work.old) (length out.old)).points) × (out.new ≡ pairs_output a.now b.now sync.now step (length work.old) out.old) × (work.new ≡ pairs_work a.now b.now sync.now step work.old (length out.old)) }
 {
-    let r = satin::pairs(a, b, sync, step, work, out);
-    *count = r.points;
-    r.answer
+    store_count(satin::pairs(a, b, sync, step, work, out), count)
+}
+
+// The same of a room's floats.
+fn store_room(r: Result<u64, Refusal>, floats: &mut u64) -> u64
+    ensures { (result ≡ (said_room r).answer) × (floats.new ≡ (said_room r).floats) }
+{
+    store_count(r, floats)
 }
 
 // Working room that is always enough for `beahcerot_pairs`: how many floats, none after a refusal.
@@ -60,9 +63,7 @@ pub extern "C" fn beahcerot_pairs_room(
 ) -> u64
     ensures { (result ≡ (pairs_room_of a.now b.now sync.now step).answer) × (floats.new ≡ (pairs_room_of a.now b.now sync.now step).floats) }
 {
-    let r = pairs_room(a, b, sync, step);
-    *floats = r.floats;
-    r.answer
+    store_room(pairs_room(a, b, sync, step), floats)
 }
 
 fn style_of(n: u64) -> Style
@@ -127,9 +128,7 @@ pub extern "C" fn beahcerot_column(
         split,
         style,
     );
-    let r = column::column(a, b, sync, g, work, out);
-    *count = r.points;
-    r.answer
+    store_count(column::column(a, b, sync, g, work, out), count)
 }
 
 // The underlay alone. `far` says whether the thread ends at the far end, not so after a refusal; `beahcerot_top` is told it.
@@ -161,10 +160,18 @@ pub extern "C" fn beahcerot_underlay(
         split,
         style,
     );
-    let r = halves::underlay(a, b, sync, g, work, out);
-    *count = r.points;
-    *far = r.far;
-    r.answer
+    match halves::underlay(a, b, sync, g, work, out) {
+        Ok(u) => {
+            *count = u.points;
+            *far = u.far;
+            0
+        }
+        Err(e) => {
+            *count = 0;
+            *far = false;
+            u64::from(e)
+        }
+    }
 }
 
 // The top alone, turned round where the thread is at the far end. The room for a column is enough for either half.
@@ -196,9 +203,7 @@ pub extern "C" fn beahcerot_top(
         split,
         style,
     );
-    let r = halves::top(a, b, sync, g, far, work, out);
-    *count = r.points;
-    r.answer
+    store_count(halves::top(a, b, sync, g, far, work, out), count)
 }
 
 // Working room that is always enough for `beahcerot_column`: how many floats, none after a refusal.
@@ -227,7 +232,5 @@ pub extern "C" fn beahcerot_column_room(
         split,
         style,
     );
-    let r = column_room(a, b, sync, g);
-    *floats = r.floats;
-    r.answer
+    store_room(column_room(a, b, sync, g), floats)
 }

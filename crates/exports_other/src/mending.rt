@@ -16,8 +16,16 @@ pub extern "C" fn beahcerot_salvage(
 ) -> u64
     ensures { outcome (salvaged result count.new dropped.new) keep.new stops.new places.new reasons.new ≡ salvage_outcome corners.now ends.now keep.old stops.old places.old reasons.old }
 {
-    let r = salvage::salvage(corners, ends, keep, stops, places, reasons);
-    *count = r.corners;
-    *dropped = r.dropped;
-    r.answer
+    match salvage::salvage(corners, ends, keep, stops, places, reasons) {
+        Ok(c) => {
+            *count = c.corners;
+            *dropped = c.dropped;
+            0
+        }
+        Err(e) => {
+            *count = 0;
+            *dropped = 0;
+            u64::from(e)
+        }
+    }
 }

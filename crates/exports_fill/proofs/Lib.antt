@@ -1,0 +1,2 @@
+-- What the proofs of `exports_fill` cite.
+pub mod Listings

@@ -1,0 +1,2 @@
+-- What the proofs of `exports_other` cite.
+pub mod Rooms
