@@ -1,24 +1,20 @@
 -- Any two outcomes that a call's contract allows are equal: one theorem for each call of docs/CALLS.md. Assumes nothing.
 -- The contracts are the source's own: of a function f, `f_contract.ended` is its signature and `f.Reads.Learnt` what rattle makes of its `ensures` and tells every caller. No theorem says their words again, so a contract that leaves a choice open is refused here.
-use Rattle.std.specs.Prelude.{ℕ, ◌≡◌, refl, cond, eqb, Result, Ok, Err, List, ◌++◌, length, drop, Float}
+use Rattle.std.specs.Prelude.{ℕ, ◌≡◌, refl, List, ◌++◌, length, drop, Float}
 use Rattle.std.proofs.Common.{sym, ap, ◌∙◌, arith}
 use contract.Lifetimes.{Lfts}
 use denote.Triple.Entry.{Args, Res}
 use denote.Triple.Clauses.{Ended, Lasts, AtExit, at_exit}
-use Rattle.std.specs.declared.cmp.Ordering.{Ordering}
-use Rattle.std.specs.declared.cmp.Ordering.TheVariants.{Less, Equal, Greater}
-use Rattle.refusal.specs.declared.Refusal.{Refusal}
-use Rattle.refusal.specs.AnswerLaws.{done_one, done_refused, refused_done, refused_one, number_one, said_one, said_sewn_one, said_written_one}
-use Rattle.leaves.specs.Answer.{place, said_order}
-use Rattle.satinrules.specs.SettingsLaws.{said_one}
-use Rattle.patterns.specs.SaidLaws.{box_one}
-use Rattle.tatami.specs.declared.Filled.{Filled}
-use Rattle.tatami.specs.Left.{Left, left}
-use Rattle.jobs.specs.declared.job.Parsed.{Parsed}
-use Rattle.jobs.specs.declared.job2.Parsed2.{Parsed2}
+use Rattle.refusal.specs.AnswerLaws.{said_one, said_sewn_one, said_written_one}
+use Rattle.tatami.specs.Left.{Filled, Left, LeftList, said_filled, left}
+use Rattle.layers.specs.declared.Both.{Both}
+use Rattle.layers.specs.Layers.{Twice}
+use Rattle.jobs.specs.Parsed.{Parsed}
+use Rattle.jobs.specs.Parsed2.{Parsed2}
 use Rattle.jobs.specs.Job.{corners as Job·corners, ends as Job·ends, left as Job·left}
 use Rattle.jobs.specs.Job2.{corners2, ends2, left2}
 use Rattle.desk.specs.Listing.{printed}
+use Rattle.claims.specs.Told.{order_one, number_said, filled_one, listed_one, room_one, floats_one, underlaid_one, lines_one, parsed_one, parsed2_one, read_one, salvaged_one, fetched_one}
 use Rattle.leaves.proofs.checked.root
 use Rattle.leaves.proofs.checked.floor
 use Rattle.leaves.proofs.checked.ceil
@@ -136,23 +132,6 @@ Says call = (κs : Lfts call.signature.lifetimes) → Args call.signature κs �
 abbrev pub One : (call : Ended) → Says call → Type 0
 One call says = (κs : Lfts call.signature.lifetimes) (a : Args call.signature κs) (x y : Outcome call κs a) → says κs a x.0 (at_exit call κs a x.1) → says κs a y.0 (at_exit call κs a y.1) → x ≡ y
 
--- ---- an answer has one meaning
-
-place_of : ℕ → Ordering
-place_of n = cond (eqb n 0) Less (cond (eqb n 1) Equal Greater)
-
-of_place : (o : Ordering) → place_of (place o) ≡ o
-unfolding place_of
-of_place Less = refl
-of_place Equal = refl
-of_place Greater = refl
-
-order_one : (r s : Result Ordering Refusal) → said_order r ≡ said_order s → r ≡ s
-order_one (Ok o) (Ok q) e = ap Ok (sym (of_place o) ∙ ap place_of (done_one e) ∙ of_place q)
-order_one (Ok o) (Err f) e = absurd (done_refused e)
-order_one (Err f) (Ok q) e = absurd (refused_done e)
-order_one (Err f) (Err g) e = ap Err (number_one f g (refused_one ℕ e))
-
 -- ---- parts of an outcome, each said by an equation
 
 abbrev pub both : {A B : Type 0} {x y : A × B} → x.0 ≡ y.0 → x.1 ≡ y.1 → x ≡ y
@@ -250,28 +229,28 @@ column_outcome κs a x y h k = both (said_sewn_one _ _ (one h.0 k.0)) (λ i. (tt
 
 -- the two halves of a column (document 02)
 pub underlay_outcome : One underlay_contract.ended underlay.Reads.Learnt
-underlay_outcome κs a x y h k = both (one h.0 k.0) (λ i. (tt, (tt, (tt, (tt, (one h.2 k.2 i, (one h.1 k.1 i, tt)))))))
+underlay_outcome κs a x y h k = both (underlaid_one _ _ (one h.0 k.0)) (λ i. (tt, (tt, (tt, (tt, (one h.2 k.2 i, (one h.1 k.1 i, tt)))))))
 
 pub top_outcome : One top_contract.ended top.Reads.Learnt
 top_outcome κs a x y h k = both (said_sewn_one _ _ (one h.0 k.0)) (λ i. (tt, (tt, (tt, (tt, (tt, (one h.2 k.2 i, (one h.1 k.1 i, tt))))))))
 
 pub pairs_room_outcome : One pairs_room_contract.ended pairs_room.Reads.Learnt
-pairs_room_outcome κs a x y h k = both (one h k) refl
+pairs_room_outcome κs a x y h k = both (floats_one _ _ (one h k)) refl
 
 pub column_room_outcome : One column_room_contract.ended column_room.Reads.Learnt
-column_room_outcome κs a x y h k = both (one h k) refl
+column_room_outcome κs a x y h k = both (floats_one _ _ (one h k)) refl
 
 pub bounds_outcome : One bounds_contract.ended bounds.Reads.Learnt
-bounds_outcome κs a x y h k = both (box_one _ _ (one h k)) refl
+bounds_outcome κs a x y h k = both (said_one _ _ (one h k)) refl
 
 pub clip_inside_outcome : One clip_inside_contract.ended clip_inside.Reads.Learnt
-clip_inside_outcome κs a x y h k = both (one h.0 k.0) (λ i. (tt, (tt, (tt, (tt, (one h.1 k.1 i, (one h.2 k.2 i, tt)))))))
+clip_inside_outcome κs a x y h k = both (lines_one _ _ (one h.0 k.0)) (λ i. (tt, (tt, (tt, (tt, (one h.1 k.1 i, (one h.2 k.2 i, tt)))))))
 
 pub cross_stitch_outcome : One cross_stitch_contract.ended cross_stitch.Reads.Learnt
-cross_stitch_outcome κs a x y h k = both (said_sewn_one _ _ (one h.0 k.0)) (λ i. (tt, (tt, (tt, (tt, (one h.1 k.1 i, (one h.2 k.2 i, tt)))))))
+cross_stitch_outcome κs a x y h k = both (said_sewn_one _ _ (lines_one _ _ (one h.0 k.0))) (λ i. (tt, (tt, (tt, (tt, (one h.1 k.1 i, (one h.2 k.2 i, tt)))))))
 
 pub meander_outcome : One meander_contract.ended meander.Reads.Learnt
-meander_outcome κs a x y h k = both (one h.0 k.0) (λ i. (tt, (tt, (tt, (tt, (tt, (tt, (one h.1 k.1 i, (one h.2 k.2 i, (one h.3 k.3 i, tt))))))))))
+meander_outcome κs a x y h k = both (lines_one _ _ (one h.0 k.0)) (λ i. (tt, (tt, (tt, (tt, (tt, (tt, (one h.1 k.1 i, (one h.2 k.2 i, (one h.3 k.3 i, tt))))))))))
 
 -- ---- the fill
 
@@ -280,24 +259,27 @@ left_parts : {r r' : Filled} {p p' f f' : List Float} {e e' w w' : List ℕ} →
 left_parts h = (ap (λ (l : Left). l.said) h, ap (λ (l : Left). l.points) h, ap (λ (l : Left). l.ends) h, ap (λ (l : Left). l.floats) h, ap (λ (l : Left). l.wholes) h)
 
 pub tatami_outcome : One tatami_contract.ended tatami.Reads.Learnt
-tatami_outcome κs a x y h k = let s = left_parts (one h k) in both (s.0) (λ i. (tt, (tt, (tt, (tt, (tt, (tt, (s.1 i, (s.2 i, (s.3 i, (s.4 i, tt)))))))))))
+tatami_outcome κs a x y h k = let s = left_parts (one h k) in both (filled_one _ _ s.0) (λ i. (tt, (tt, (tt, (tt, (tt, (tt, (s.1 i, (s.2 i, (s.3 i, (s.4 i, tt)))))))))))
 
 pub row_list_outcome : One row_list_contract.ended row_list.Reads.Learnt
-row_list_outcome κs a x y h k = let s = one h k in λ i. ((s i).said, (tt, (tt, (tt, (tt, (tt, (tt, ((s i).ys, ((s i).rows, ((s i).sections, ((s i).floats, ((s i).wholes, tt))))))))))))
+row_list_outcome κs a x y h k = let s = one h k in both (listed_one _ _ (ap (λ (l : LeftList). l.said) s)) (λ i. (tt, (tt, (tt, (tt, (tt, (tt, ((s i).ys, ((s i).rows, ((s i).sections, ((s i).floats, ((s i).wholes, tt))))))))))))
 
 pub plain_tatami_outcome : One plain_tatami_contract.ended plain_tatami.Reads.Learnt
-plain_tatami_outcome κs a x y h k = let s = left_parts (one h k) in both (s.0) (λ i. (tt, (tt, (tt, (tt, (tt, (tt, (s.1 i, (s.2 i, (s.3 i, (s.4 i, tt)))))))))))
+plain_tatami_outcome κs a x y h k = let s = left_parts (one h k) in both (filled_one _ _ s.0) (λ i. (tt, (tt, (tt, (tt, (tt, (tt, (s.1 i, (s.2 i, (s.3 i, (s.4 i, tt)))))))))))
 
 pub plain_row_list_outcome : One plain_row_list_contract.ended plain_row_list.Reads.Learnt
-plain_row_list_outcome κs a x y h k = let s = one h k in λ i. ((s i).said, (tt, (tt, (tt, (tt, (tt, (tt, ((s i).ys, ((s i).rows, ((s i).sections, ((s i).floats, ((s i).wholes, tt))))))))))))
+plain_row_list_outcome κs a x y h k = let s = one h k in both (listed_one _ _ (ap (λ (l : LeftList). l.said) s)) (λ i. (tt, (tt, (tt, (tt, (tt, (tt, ((s i).ys, ((s i).rows, ((s i).sections, ((s i).floats, ((s i).wholes, tt))))))))))))
+
+twice_said : (r s : Both) → said_filled r.first ≡ said_filled s.first → said_filled r.second ≡ said_filled s.second → r ≡ s
+twice_said r s p q = λ i. record { first = filled_one _ _ p i; second = filled_one _ _ q i }
 
 pub tatami_twice_outcome : One tatami_twice_contract.ended tatami_twice.Reads.Learnt
 tatami_twice_outcome κs a x y h k =
     let s = one h k in
-    λ i. (record { first = (s i).first.said; second = (s i).second.said }, (tt, (tt, (tt, (tt, (tt, (tt, (tt, ((s i).table, ((s i).places, ((s i).first.points, ((s i).first.ends, ((s i).first.floats, ((s i).first.wholes, ((s i).second.points, ((s i).second.ends, ((s i).second.floats, ((s i).second.wholes, tt))))))))))))))))))
+    both (twice_said _ _ (ap (λ (t : Twice). t.first.said) s) (ap (λ (t : Twice). t.second.said) s)) (λ i. (tt, (tt, (tt, (tt, (tt, (tt, (tt, ((s i).table, ((s i).places, ((s i).first.points, ((s i).first.ends, ((s i).first.floats, ((s i).first.wholes, ((s i).second.points, ((s i).second.ends, ((s i).second.floats, ((s i).second.wholes, tt))))))))))))))))))
 
 pub fill_room_outcome : One fill_room_contract.ended fill_room.Reads.Learnt
-fill_room_outcome κs a x y h k = both (one h k) refl
+fill_room_outcome κs a x y h k = both (room_one _ _ (one h k)) refl
 
 -- ---- a job
 
@@ -307,10 +289,10 @@ parse_outcome κs a x y h k =
     let bytes = a.0.now in
     let c = h.1.0 ∙ ap (λ (r : Parsed). Job·left r (Job·corners bytes) a.1.0.now) s ∙ sym k.1.0 in
     let e = h.1.1 ∙ ap (λ (r : Parsed). Job·left r (Job·ends bytes) a.1.1.0.now) s ∙ sym k.1.1 in
-    both s (λ i. (tt, (c i, (e i, tt))))
+    both (parsed_one _ _ s) (λ i. (tt, (c i, (e i, tt))))
 
 pub fill_job_outcome : One fill_job_contract.ended fill_job.Reads.Learnt
-fill_job_outcome κs a x y h k = let s = left_parts (one h.0 k.0) in both (s.0) (λ i. (tt, (one h.1.0 k.1.0 i, (one h.1.1 k.1.1 i, (s.1 i, (s.2 i, (s.3 i, (s.4 i, tt))))))))
+fill_job_outcome κs a x y h k = let s = left_parts (one h.0 k.0) in both (filled_one _ _ s.0) (λ i. (tt, (one h.1.0 k.1.0 i, (one h.1.1 k.1.1 i, (s.1 i, (s.2 i, (s.3 i, (s.4 i, tt))))))))
 
 pub parse2_outcome : One parse2_contract.ended parse2.Reads.Learnt
 parse2_outcome κs a x y h k =
@@ -318,12 +300,12 @@ parse2_outcome κs a x y h k =
     let bytes = a.0.now in
     let c = h.1.0 ∙ ap (λ (r : Parsed2). left2 r (corners2 bytes) a.1.0.now) s ∙ sym k.1.0 in
     let e = h.1.1 ∙ ap (λ (r : Parsed2). left2 r (ends2 bytes) a.1.1.0.now) s ∙ sym k.1.1 in
-    both s (λ i. (tt, (c i, (e i, tt))))
+    both (parsed2_one _ _ s) (λ i. (tt, (c i, (e i, tt))))
 
 pub fill_job2_outcome : One fill_job2_contract.ended fill_job2.Reads.Learnt
 fill_job2_outcome κs a x y h k =
     let s = one h.0 k.0 in
-    λ i. (record { first = (s i).first.said; second = (s i).second.said }, (tt, (one h.1.0 k.1.0 i, (one h.1.1 k.1.1 i, ((s i).table, ((s i).places, ((s i).first.points, ((s i).first.ends, ((s i).first.floats, ((s i).first.wholes, ((s i).second.points, ((s i).second.ends, ((s i).second.floats, ((s i).second.wholes, tt))))))))))))))
+    both (twice_said _ _ (ap (λ (t : Twice). t.first.said) s) (ap (λ (t : Twice). t.second.said) s)) (λ i. (tt, (one h.1.0 k.1.0 i, (one h.1.1 k.1.1 i, ((s i).table, ((s i).places, ((s i).first.points, ((s i).first.ends, ((s i).first.floats, ((s i).first.wholes, ((s i).second.points, ((s i).second.ends, ((s i).second.floats, ((s i).second.wholes, tt))))))))))))))
 
 -- ---- all that the program prints. `fill::answer` is a program's, which no other crate can name: its contract's words are written once more, and only reading holds them to the source
 
@@ -337,10 +319,10 @@ printed_outcome bytes out = front_one (printed bytes) out
 -- ---- for the machine
 
 pub dst_outcome : One dst_contract.ended dst.Reads.Learnt
-dst_outcome κs a x y h k = both (one h.0 k.0) (λ i. (tt, (one h.1 k.1 i, tt)))
+dst_outcome κs a x y h k = both (said_written_one _ _ (one h.0 k.0)) (λ i. (tt, (one h.1 k.1 i, tt)))
 
 pub dst_read_outcome : One dst_read_contract.ended dst_read.Reads.Learnt
-dst_read_outcome κs a x y h k = both (one h.0 k.0) (λ i. (tt, (one h.1 k.1 i, (one h.2 k.2 i, tt))))
+dst_read_outcome κs a x y h k = both (read_one _ _ (one h.0 k.0)) (λ i. (tt, (one h.1 k.1 i, (one h.2 k.2 i, tt))))
 
 -- ---- broken outlines
 
@@ -350,10 +332,10 @@ salvage_outcome_lem κs a x y h k = let s = one h k in λ i. ((s i).said, (tt, (
 -- ---- the sheet book
 
 pub store_outcome : One store_contract.ended store.Reads.Learnt
-store_outcome κs a x y h k = both (one h.0 k.0) (λ i. (one h.1 k.1 i, (tt, (tt, tt))))
+store_outcome κs a x y h k = both (number_said _ _ (one h.0 k.0)) (λ i. (one h.1 k.1 i, (tt, (tt, tt))))
 
 pub fetch_outcome : One fetch_contract.ended fetch.Reads.Learnt
-fetch_outcome κs a x y h k = both (one h k) refl
+fetch_outcome κs a x y h k = both (fetched_one _ _ (one h k)) refl
 
 pub remove_outcome : One remove_contract.ended remove.Reads.Learnt
-remove_outcome κs a x y h k = both (one h.0 k.0) (λ i. (one h.1 k.1 i, (tt, tt)))
+remove_outcome κs a x y h k = both (number_said _ _ (one h.0 k.0)) (λ i. (one h.1 k.1 i, (tt, tt)))
