@@ -1,3 +1,5 @@
+use Rattle.std.proofs.Common.{ℕ, sym, ap, ◌∙◌}
+use Rattle.refusal.specs.Refusal.{SETTING, number, unless, ◌then◌}
 use Rattle.std.proofs.lemmas.Result.{err_from_is_err_and, MatchResult-weaker}
 use borrow.Author.Tests.{ne_eqb}
 use Rattle.refusal.specs.AnswerLaws.{number_some}
@@ -10,4 +12,6 @@ returns-in_err-accepted c =
     rw (p.1, p.2, c.in_err-accepted.ensures, ne_eqb _ 0 n)
 
 pub returns : goal.returns
-returns c = MatchResult-weaker c.unless.result c.unless.ensures (λ _ g. rw (c.in_ok-accepted.ensures, g)) (λ f g. rw (c.in_ok-accepted.ensures, g.0, g.1))
+returns c =
+    let r = ap (λ (n : ℕ). n then unless SETTING c.args.good) c.in_ok-accepted.ensures in
+    MatchResult-weaker c.unless.result c.unless.ensures (λ _ g. r ∙ ap (unless SETTING) g) (λ f g. r ∙ ap (unless SETTING) g.1 ∙ sym (ap number g.0))
