@@ -29,6 +29,7 @@ pub fn cut_at(rule: FillRule, g: Settings, upward: bool, w: Rows, r: usize) -> C
 }
 
 // The rows, over a stripe of places that wait in order.
+// kept (5): no plainer: rule, g, upward and w are one in finding's Plan, and here the theorems name each
 fn all_rows(
     table: &Table,
     places: &mut [usize],
