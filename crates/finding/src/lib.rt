@@ -9,7 +9,6 @@ ghost use Rattle.edges.specs.Span.{rows_of};
 
 pub mod find;
 pub mod gate;
-pub mod zero;
 
 use edges::Rows;
 use geom::Outline;
