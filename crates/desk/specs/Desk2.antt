@@ -4,10 +4,8 @@ use Rattle.rules.specs.declared.Settings.{Settings}
 use Rattle.jobs.specs.Parsed2.{Parsed2}
 use Rattle.jobs.specs.Parsed2.{Done, Refused}
 use Rattle.jobs.specs.Job2.{corners2, ends2, parsed2}
-use Rattle.tatami.specs.declared.Filled.{Filled}
-use Rattle.tatami.specs.Left.{left}
+use Rattle.tatami.specs.Left.{Filled, left}
 use Rattle.layers.specs.declared.Layer.{Layer}
-use Rattle.layers.specs.declared.Both.{Both}
 use Rattle.layers.specs.Layers.{Slices, Twice, twice, twice_left}
 
 -- a fill's own settings, without cosine and sine
@@ -17,9 +15,6 @@ layer_of g stagger bottomUp = record { spacing = g.spacing; len = g.len; inset =
 -- a refusal's number, and nothing sewn
 abbrev pub nothing : ℕ → Filled
 nothing n = record { answer = n; sections = 0; points = 0 }
-
-abbrev pub nothings : ℕ → Both
-nothings n = record { first = nothing n; second = nothing n }
 
 -- both fills as the job says; a refused job is its number and zeros for both, and changes nothing
 abbrev pub left_of2 : List ℕ → Parsed2 → Slices → Slices → List Float → List ℕ → Twice

@@ -3,8 +3,7 @@ use Rattle.std.specs.Prelude.{ℕ, ◌≤◌, ◌≡◌, ◌&&◌, cond, List, �
 use Rattle.numbers.specs.Num.{zero64}
 use Rattle.jobs.specs.Job.{byte}
 use Rattle.jobs.specs.Text.{listing, Ends}
-use Rattle.tatami.specs.declared.Filled.{Filled}
-use Rattle.tatami.specs.Left.{Left}
+use Rattle.tatami.specs.Left.{Filled, Left}
 use Rattle.layers.specs.Layers.{Slices, slices, Twice}
 use Rattle.desk.specs.Desk.{job_left}
 use Rattle.desk.specs.Desk2.{job2_left}

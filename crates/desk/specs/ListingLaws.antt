@@ -13,8 +13,7 @@ use Rattle.jobs.specs.Parsed.{Parsed}
 use Rattle.jobs.specs.Parsed.{Done, Refused}
 use Rattle.jobs.specs.Job.{good_head, decoded, parsed}
 use Rattle.jobs.specs.Text.{listing, Ends}
-use Rattle.tatami.specs.declared.Filled.{Filled}
-use Rattle.tatami.specs.Left.{Left, left, left_by, tatami_left}
+use Rattle.tatami.specs.Left.{Filled, Left, left, left_by, tatami_left}
 use Rattle.layers.specs.Layers.{Slices, layer_left, twice_left}
 use Rattle.jobs.specs.Parsed2.{Parsed2}
 use Rattle.jobs.specs.Parsed2.{Done as Done2, Refused as Refused2}

@@ -3,12 +3,13 @@
 
 ghost use Rattle.std.specs.Prelude.{◌≡◌, length};
 ghost use Rattle.jobs.specs.Job.{parsed, corners as Job·corners, ends as Job·ends, left as Job·left};
-ghost use Rattle.tatami.specs.Left.{left};
+ghost use Rattle.tatami.specs.Left.{said_filled, left};
 ghost use Rattle.desk.specs.Desk.{job_left};
 
 pub mod two;
 
-use jobs::{Parsed, parse};
+use jobs::parse;
+use refusal::Refusal;
 use tatami::{Filled, tatami};
 
 // The job's outline goes to the front of `corners` and `ends`, then `tatami` is called with it. 2,048 corners' floats and 255 ends are room for every job.
@@ -20,34 +21,23 @@ pub fn fill_job(
     stops: &mut [usize],
     floats: &mut [f64],
     wholes: &mut [usize],
-) -> Filled
-    ensures wholes_after { left result points.new stops.new floats.new wholes.new ≡ job_left bytes.now (length corners.old) (length ends.old) points.old stops.old floats.old wholes.old }
+) -> Result<Filled, Refusal>
+    ensures wholes_after { left (said_filled result) points.new stops.new floats.new wholes.new ≡ job_left bytes.now (length corners.old) (length ends.old) points.old stops.old floats.old wholes.old }
     ensures corners_after { corners.new ≡ Job·left (parsed bytes.now (length corners.old) (length ends.old)) (Job·corners bytes.now) corners.old }
     ensures ends_after { ends.new ≡ Job·left (parsed bytes.now (length corners.old) (length ends.old)) (Job·ends bytes.now) ends.old }
 {
-    match parse(bytes, corners, ends) {
-        Parsed::Refused(n) => Filled {
-            answer: n,
-            sections: 0,
-            points: 0,
-        },
-        Parsed::Done(j) => {
-            let rule = j.rule;
-            let settings = j.settings;
-            let n = 2 * j.corners;
-            let k = j.rings;
-            tatami(
-                &corners[..n],
-                &ends[..k],
-                rule,
-                settings,
-                j.stagger,
-                j.bottom_up,
-                points,
-                stops,
-                floats,
-                wholes,
-            )
-        }
-    }
+    let j = parse(bytes, corners, ends)?;
+    let n = 2 * j.corners;
+    tatami(
+        &corners[..n],
+        &ends[..j.rings],
+        j.rule,
+        j.settings,
+        j.stagger,
+        j.bottom_up,
+        points,
+        stops,
+        floats,
+        wholes,
+    )
 }

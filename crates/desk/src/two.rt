@@ -1,30 +1,22 @@
 // A version 2 job filled (request [6]): two fills over one edge table.
-ghost use Rattle.std.specs.Prelude.{◌≡◌, length};
+ghost use Rattle.std.specs.Prelude.{◌≡◌, length, Err};
 ghost use Rattle.jobs.specs.Job2.{corners2, ends2, parsed2, left2};
-ghost use Rattle.tatami.specs.Left.{left};
+ghost use Rattle.tatami.specs.Left.{said_filled, left};
 ghost use Rattle.layers.specs.Layers.{slices, twice};
-ghost use Rattle.desk.specs.Desk2.{layer_of, nothings, job2_left};
+ghost use Rattle.desk.specs.Desk2.{layer_of, job2_left};
 
-use jobs::{Parsed2, parse2};
+use jobs::parse2;
 use layers::{Both, Layer, tatami_twice};
+use refusal::Refusal;
 use rules::Settings;
-use tatami::Filled;
 
 // A refused job, told of both fills.
-fn refused(n: u64) -> Both
-    ensures { result ≡ nothings n }
+fn refused(e: Refusal) -> Both
+    ensures { (result.first ≡ Err e) × (result.second ≡ Err e) }
 {
     Both {
-        first: Filled {
-            answer: n,
-            sections: 0,
-            points: 0,
-        },
-        second: Filled {
-            answer: n,
-            sections: 0,
-            points: 0,
-        },
+        first: Err(e),
+        second: Err(e),
     }
 }
 
@@ -58,13 +50,13 @@ pub fn fill_job2(
     floats2: &mut [f64],
     wholes2: &mut [usize],
 ) -> Both
-    ensures places_after { twice (left result.first points.new stops.new floats.new wholes.new) (left result.second points2.new stops2.new floats2.new wholes2.new) table.new places.new ≡ job2_left bytes.now (length corners.old) (length ends.old) (slices points.old stops.old floats.old wholes.old) (slices points2.old stops2.old floats2.old wholes2.old) table.old places.old }
+    ensures places_after { twice (left (said_filled result.first) points.new stops.new floats.new wholes.new) (left (said_filled result.second) points2.new stops2.new floats2.new wholes2.new) table.new places.new ≡ job2_left bytes.now (length corners.old) (length ends.old) (slices points.old stops.old floats.old wholes.old) (slices points2.old stops2.old floats2.old wholes2.old) table.old places.old }
     ensures corners_after { corners.new ≡ left2 (parsed2 bytes.now (length corners.old) (length ends.old)) (corners2 bytes.now) corners.old }
     ensures ends_after { ends.new ≡ left2 (parsed2 bytes.now (length corners.old) (length ends.old)) (ends2 bytes.now) ends.old }
 {
     match parse2(bytes, corners, ends) {
-        Parsed2::Refused(n) => refused(n),
-        Parsed2::Done(j, k) => {
+        Err(e) => refused(e),
+        Ok((j, k)) => {
             let rule = j.rule;
             let g = j.settings;
             let h = k.settings;
