@@ -65,6 +65,7 @@ fn clear(
     wholes2.fill(0);
 }
 
+// kept (6): rule: document 01 lends the slices; no heap
 // Each fill's points, x before y, to the front of its `points`, and where each section ends, in points, to the front of its `stops`.
 pub fn tatami_twice(
     corners: &[f64],

@@ -10,6 +10,7 @@ use crate::{Both, Layer};
 use outlines::FillRule;
 use rules::Settings;
 
+// kept (4): no plainer: a From would need the angle in the layer
 fn settings_of(t: Layer, cosine: f64, sine: f64) -> Settings
     ensures { result ≡ settings_of t cosine sine }
 {
@@ -24,6 +25,7 @@ fn settings_of(t: Layer, cosine: f64, sine: f64) -> Settings
 }
 
 // `places` is the scratch of the first, then of the second.
+// kept (5): no plainer: of a struct of `&mut` slices a contract says what is left by nested pairs (`.exit.1.1.0`)
 pub fn fill_both(
     corners: &[f64],
     ends: &[usize],

@@ -17,6 +17,8 @@ use tatami::Filled;
 use tatami::list::list_found;
 use tatami::sew::sew_found;
 
+// kept (2): C: each engine has its own entries; they are the fill's but for `find`, and one last stage serves both
+// kept (6): rule: document 01 lends the slices; no heap
 // The points of every section, x before y, to the front of `points`, and where each section ends, in points, to the front of `stops`.
 pub fn tatami(
     corners: &[f64],

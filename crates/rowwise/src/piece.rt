@@ -19,6 +19,7 @@ fn next_piece(o: Outline, g: Settings, c: Cut, from: Scan, after: f64) -> Option
 {
     let mut s = from;
     let mut last = after;
+    // kept (3): no plainer: a turn passes as many sides as share an x, and ends at a piece
     loop {
         let q = Ask {
             y: c.y,

@@ -25,6 +25,7 @@ pub struct Filled {
     pub points: u64,
 }
 
+// kept (6): rule: document 01 lends the slices; no heap
 // The points of every section, x before y, to the front of `points`, and where each section ends, in points, to the front of `stops`.
 pub fn tatami(
     corners: &[f64],
