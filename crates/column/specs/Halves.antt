@@ -9,7 +9,7 @@ use Rattle.satinrules.specs.Column.{bit, spacing_of, stitches, column}
 use Rattle.satinrules.specs.Calls.{rails_of, pass_steps, passed}
 use Rattle.satin.specs.Underlay.{Fit, runs}
 use Rattle.column.specs.declared.sized.Passes.{Passes}
-use Rattle.column.specs.declared.sized.Under.{Under}
+use Rattle.satin.specs.declared.underlay.Under.{Under}
 
 -- the underlay's passes that are sewn are those of the settings, few enough, and a working slice of so many numbers has room for each
 pub record UnderReady (a b sync : List Float) (g : Satin) (ends : P) (u : Under) (work : ℕ) : Type 0 where

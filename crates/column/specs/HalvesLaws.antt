@@ -24,7 +24,7 @@ use Rattle.passes.specs.Threads.{pairs_in}
 use Rattle.satin.specs.PassedLaws.{need_room}
 use Rattle.satin.specs.UnderlayLaws.{underlay_count_lem, run_size, fit_laid, fit_stitches}
 use Rattle.column.specs.declared.sized.Passes.{Passes}
-use Rattle.column.specs.declared.sized.Under.{Under}
+use Rattle.satin.specs.declared.underlay.Under.{Under}
 use Rattle.column.specs.Sized.{sized_at, under_of, passes_of, most_under, most_in, TopLaid}
 use Rattle.column.specs.SizedLaws.{underlay_small, most_small, halves_sized, run_fit, zigzag_fit, under_is, passes_top, run_room, zigzag_room}
 use Rattle.column.specs.Topping.{top_of}

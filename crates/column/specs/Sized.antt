@@ -14,7 +14,7 @@ use Rattle.pairing.specs.Walk.{pass_of, walk_places}
 use Rattle.pairing.specs.Store.{stored_pairs}
 use Rattle.satin.specs.Underlay.{runs}
 use Rattle.column.specs.declared.sized.Passes.{Passes}
-use Rattle.column.specs.declared.sized.Under.{Under}
+use Rattle.satin.specs.declared.underlay.Under.{Under}
 
 -- `sized`, from the place where both rails end
 unfoldable pub sized_at : P → List P → List Float → Bool

@@ -21,7 +21,7 @@ use Rattle.pairing.specs.declared.places.Pass.{Pass}
 use Rattle.pairing.specs.Walk.{pass_of, walk_places}
 use Rattle.pairing.specs.WalkLaws.{places_bound}
 use Rattle.column.specs.declared.sized.Passes.{Passes}
-use Rattle.column.specs.declared.sized.Under.{Under}
+use Rattle.satin.specs.declared.underlay.Under.{Under}
 use Rattle.satin.specs.Underlay.{Fit, runs}
 use Rattle.satin.specs.UnderlayLaws.{fit_count}
 use Rattle.column.specs.Sized.{sized_at, places_if, under_of, passes_of, most_under, most_in}

@@ -30,7 +30,7 @@ pub fn count_halves(work: &mut [f64], rails: Rails, p: Passes, g: Satin, room: u
     let from = 4 * p.t;
     let points = count_top(&work[from..from + 4 * p.t], g, room);
     let u = p.under;
-    add_within(points, count_underlay(u.n, u.m, g) as u64, room)
+    add_within(points, count_underlay(u, g) as u64, room)
 }
 
 // Both halves to the front of out. The top goes first, behind where the underlay comes to stand: its stitches stand in the working slice.
@@ -39,13 +39,11 @@ pub fn put_halves(work: &mut [f64], out: &mut [f64], rails: Rails, p: Passes, g:
     ensures { (out.new ≡ put out.old 0 (flat (column (rails_of rails.entry.a.now rails.entry.b.now rails.entry.course.sync.now) g))) × (length work.new ≡ length work.old) }
 {
     let u = p.under;
-    let run = u.run;
-    let zigzag = u.zigzag;
     let from = 4 * p.t;
-    let under = count_underlay(u.n, u.m, g);
+    let under = count_underlay(u, g);
     let far = after_zigzag(g);
     put_top(out, 2 * under, &work[from..from + 4 * p.t], g, far);
-    put_underlay(work, out, rails, run, u.n, zigzag, u.m, g);
+    put_underlay(work, out, rails, u, g);
 }
 
 // The column to the front of out, or ROOM and nothing.

@@ -11,17 +11,8 @@ use pairing::Rails;
 use pairing::places::{Course, Pass, pass_along};
 use pairing::store::lay_pairs;
 use passes::top::spaced;
-use satin::underlay::runs;
+use satin::underlay::{Under, runs};
 use satinrules::Satin;
-
-// The passes of the underlay, and how many places each has; none where it isn't sewn.
-#[derive(Clone, Copy)]
-pub struct Under {
-    pub run: Pass,
-    pub n: usize,
-    pub zigzag: Pass,
-    pub m: usize,
-}
 
 // The passes of a column: the underlay's, and the top's with its places.
 #[derive(Clone, Copy)]

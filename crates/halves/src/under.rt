@@ -9,12 +9,12 @@ ghost use Rattle.pairing.specs.Store.{Sound};
 ghost use Rattle.column.specs.Halves.{UnderReady};
 ghost use Rattle.halves.specs.Sewing.{underlay_passed};
 
-use column::sized::{Under, underlay_most, underlay_passes, underlay_sized};
+use column::sized::{underlay_most, underlay_passes, underlay_sized};
 use pairing::Rails;
 use pairing::store::put_rails;
 use refusal::Refusal;
 use satin::rails::{BOTH_RAILS, need};
-use satin::underlay::{count_underlay, put_underlay};
+use satin::underlay::{Under, count_underlay, put_underlay};
 use satinrules::Satin;
 
 // The underlay to the front of out, or ROOM and nothing.
@@ -28,13 +28,11 @@ fn sew_underlay(
     requires { UnderReady rails.a.now rails.b.now rails.course.sync.now g rails.course.ends u (length work.old) }
     ensures { (said_sewn result ≡ sewn (fitted (underlay (rails_of rails.entry.a.now rails.entry.b.now rails.entry.course.sync.now) g) (length out.old)) (length (underlay (rails_of rails.entry.a.now rails.entry.b.now rails.entry.course.sync.now) g))) × (out.new ≡ output (fitted (underlay (rails_of rails.entry.a.now rails.entry.b.now rails.entry.course.sync.now) g) (length out.old)) (flat (underlay (rails_of rails.entry.a.now rails.entry.b.now rails.entry.course.sync.now) g)) out.old) × (length work.new ≡ length work.old) }
 {
-    let points = count_underlay(u.n, u.m, g);
+    let points = count_underlay(u, g);
     if points > out.len() / 2 {
         return Err(Refusal::Room);
     }
-    let run = u.run;
-    let zigzag = u.zigzag;
-    put_underlay(work, out, rails, run, u.n, zigzag, u.m, g);
+    put_underlay(work, out, rails, u, g);
     Ok(points as u64)
 }
 

@@ -47,11 +47,8 @@ pub fn put_pair(w: &mut [f64], to: usize, q: Pair)
 fn put_within(w: &mut [f64], to: usize, q: Pair)
     ensures { w.new ≡ put_within w.old to q }
 {
-    if to < w.len() {
-        if w.len() - to >= 4 {
-            put_pair(w, to, q);
-            return;
-        }
+    if to < w.len() && w.len() - to >= 4 {
+        put_pair(w, to, q);
     }
 }
 

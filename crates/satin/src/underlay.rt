@@ -17,6 +17,15 @@ use pairing::store::lay_pairs;
 use passes::threads::{Thread, put_thread};
 use satinrules::Satin;
 
+// The passes of the underlay, and how many places each has; none where it isn't sewn.
+#[derive(Clone, Copy)]
+pub struct Under {
+    pub run: Pass,
+    pub n: usize,
+    pub zigzag: Pass,
+    pub m: usize,
+}
+
 // Whether the pass by run_len is sewn: for the centre, for the contour, or for both.
 pub fn runs(g: Satin) -> bool
     ensures { result ≡ runs g }
@@ -59,41 +68,32 @@ fn put_runs(out: &mut [f64], s: &[f64], g: Satin) -> usize
 }
 
 // The whole underlay to the front of out: centre, contour and zigzag, in that order; answers the place after it. A pass that isn't sewn may be any.
-pub fn put_underlay(
-    work: &mut [f64],
-    out: &mut [f64],
-    rails: Rails,
-    run: Pass,
-    n: usize,
-    zigzag: Pass,
-    m: usize,
-    g: Satin,
-) -> usize
-    requires { (runs g ≡ true → Fit rails.a.now rails.b.now rails.course.sync.now g.run_len rails.course.ends run n) × (bit g 4 ≡ true → Fit rails.a.now rails.b.now rails.course.sync.now zigzag_underlay_spacing rails.course.ends zigzag m) × (4 * n ≤ length work.old) × (4 * m ≤ length work.old) × (2 * length (underlay (rails_of rails.a.now rails.b.now rails.course.sync.now) g) ≤ length out.old) }
+pub fn put_underlay(work: &mut [f64], out: &mut [f64], rails: Rails, u: Under, g: Satin) -> usize
+    requires { (runs g ≡ true → Fit rails.a.now rails.b.now rails.course.sync.now g.run_len rails.course.ends u.run u.n) × (bit g 4 ≡ true → Fit rails.a.now rails.b.now rails.course.sync.now zigzag_underlay_spacing rails.course.ends u.zigzag u.m) × (4 * u.n ≤ length work.old) × (4 * u.m ≤ length work.old) × (2 * length (underlay (rails_of rails.a.now rails.b.now rails.course.sync.now) g) ≤ length out.old) }
     ensures { (out.new ≡ put out.old 0 (flat (underlay (rails_of rails.entry.a.now rails.entry.b.now rails.entry.course.sync.now) g))) × (result ≡ 2 * length (underlay (rails_of rails.entry.a.now rails.entry.b.now rails.entry.course.sync.now) g)) × (length work.new ≡ length work.old) }
 {
     let crossed = g.underlay / 4 % 2 == 1;
-    lay_if(runs(g), work, rails, run);
-    let k = put_runs(out, &work[0..4 * n], g);
-    lay_if(crossed, work, rails, zigzag);
+    lay_if(runs(g), work, rails, u.run);
+    let k = put_runs(out, &work[0..4 * u.n], g);
+    lay_if(crossed, work, rails, u.zigzag);
     put_if(
         crossed,
         out,
         k,
-        &work[0..4 * m],
+        &work[0..4 * u.m],
         Thread::Alternate,
         g.underlay % 2 == 1,
     )
 }
 
-// How many points the underlay has, where its passes have n and m pairs.
-pub fn count_underlay(n: usize, m: usize, g: Satin) -> usize
-    requires { (n ≤ 65537) × (m ≤ 65537) }
-    ensures { result ≡ underlay_count g n m }
+// How many points the underlay has.
+pub fn count_underlay(u: Under, g: Satin) -> usize
+    requires { (u.n ≤ 65537) × (u.m ≤ 65537) }
+    ensures { result ≡ underlay_count g u.n u.m }
 {
-    once(g.underlay % 2 == 1, n)
-        + once(g.underlay / 2 % 2 == 1, 2 * n)
-        + once(g.underlay / 4 % 2 == 1, m)
+    once(g.underlay % 2 == 1, u.n)
+        + once(g.underlay / 2 % 2 == 1, 2 * u.n)
+        + once(g.underlay / 4 % 2 == 1, u.m)
 }
 
 // n where it is sewn.

@@ -20,8 +20,8 @@ use Rattle.satin.proofs.underlay.put_underlay.Goals as goal
 pub lay_if-requires : goal.lay_if-requires
 lay_if-requires c = (λ t. let f = c.requires.0 (sym c.runs.ensures ∙ t) in (f.small, omega (arith, c.requires.2, f.count)))
 
-pub overflow_mul-n : goal.overflow_mul-n
-overflow_mul-n c = omega (arith, c.requires.2, c.well_formed)
+pub overflow_mul-u : goal.overflow_mul-u
+overflow_mul-u c = omega (arith, c.requires.2, c.well_formed)
 
 pub slice_bounds-put_runs-end : goal.slice_bounds-put_runs-end
 slice_bounds-put_runs-end c = omega (arith, c.requires.2, c.lay_if.ensures.0)
@@ -31,9 +31,9 @@ put_runs-k-requires c =
     let a = c.args in
     let r = rails_of a.rails.a.now a.rails.b.now a.rails.course.sync.now in
     let w = c.lay_if.new.work in
-    let qs = pairs_in (points (take (4 * a.n) w)) in
+    let qs = pairs_in (points (take (4 * a.u.n) w)) in
     let e : runs a.g ≡ true → qs ≡ pairs r a.g.run_len = λ t. fit_laid (c.requires.0 t) w (c.lay_if.ensures.1 (c.runs.ensures ∙ t)) in
-    let y : 4 * a.n - 0 ≡ 4 * a.n = omega arith in
+    let y : 4 * a.u.n - 0 ≡ 4 * a.u.n = omega arith in
     let over = over_if (bit a.g 4) Alternate (after_centre a.g) (pairs r zigzag_underlay_spacing) in
     let all = underlay_over a.rails.a.now a.rails.b.now a.rails.course.sync.now a.g qs (pairs r zigzag_underlay_spacing) e (λ t. refl) in
     rw y (omega (arith, c.requires.4, ap length all, length-append (runs_over a.g qs) over))
@@ -41,8 +41,8 @@ put_runs-k-requires c =
 pub lay_if-requires-2 : goal.lay_if-requires-2
 lay_if-requires-2 c = (λ t. let f = c.requires.1 t in (f.small, omega (arith, c.requires.3, c.lay_if.ensures.0, f.count)))
 
-pub overflow_mul-m : goal.overflow_mul-m
-overflow_mul-m c = omega (arith, c.requires.3, c.well_formed)
+pub overflow_mul-u-2 : goal.overflow_mul-u-2
+overflow_mul-u-2 c = omega (arith, c.requires.3, c.well_formed)
 
 pub slice_bounds-put_if-end : goal.slice_bounds-put_if-end
 slice_bounds-put_if-end c = omega (arith, c.requires.3, c.lay_if-2.ensures.0, c.lay_if.ensures.0)
@@ -52,13 +52,13 @@ put_if-requires c =
     let a = c.args in
     let r = rails_of a.rails.a.now a.rails.b.now a.rails.course.sync.now in
     let w = c.lay_if.new.work in
-    let qs = pairs_in (points (take (4 * a.n) w)) in
+    let qs = pairs_in (points (take (4 * a.u.n) w)) in
     let e : runs a.g ≡ true → qs ≡ pairs r a.g.run_len = λ t. fit_laid (c.requires.0 t) w (c.lay_if.ensures.1 (c.runs.ensures ∙ t)) in
-    let y : 4 * a.n - 0 ≡ 4 * a.n = omega arith in
+    let y : 4 * a.u.n - 0 ≡ 4 * a.u.n = omega arith in
     let v = c.lay_if-2.new.work in
-    let zs = pairs_in (points (take (4 * a.m) v)) in
+    let zs = pairs_in (points (take (4 * a.u.m) v)) in
     let f : bit a.g 4 ≡ true → zs ≡ pairs r zigzag_underlay_spacing = λ t. fit_laid (c.requires.1 t) v (c.lay_if-2.ensures.1 t) in
-    let z : 4 * a.m - 0 ≡ 4 * a.m = omega arith in
+    let z : 4 * a.u.m - 0 ≡ 4 * a.u.m = omega arith in
     let over = over_if (bit a.g 4) Alternate (after_centre a.g) zs in
     let all = underlay_over a.rails.a.now a.rails.b.now a.rails.course.sync.now a.g qs zs e f in
     let h : 0 + 2 * length (runs_over a.g qs ++ over) ≤ length a.out.now = rw all (omega (arith, c.requires.4)) in
@@ -74,13 +74,13 @@ shape_of-out c =
     let a = c.args in
     let r = rails_of a.rails.a.now a.rails.b.now a.rails.course.sync.now in
     let w = c.lay_if.new.work in
-    let qs = pairs_in (points (take (4 * a.n) w)) in
+    let qs = pairs_in (points (take (4 * a.u.n) w)) in
     let e : runs a.g ≡ true → qs ≡ pairs r a.g.run_len = λ t. fit_laid (c.requires.0 t) w (c.lay_if.ensures.1 (c.runs.ensures ∙ t)) in
-    let y : 4 * a.n - 0 ≡ 4 * a.n = omega arith in
+    let y : 4 * a.u.n - 0 ≡ 4 * a.u.n = omega arith in
     let v = c.lay_if-2.new.work in
-    let zs = pairs_in (points (take (4 * a.m) v)) in
+    let zs = pairs_in (points (take (4 * a.u.m) v)) in
     let f : bit a.g 4 ≡ true → zs ≡ pairs r zigzag_underlay_spacing = λ t. fit_laid (c.requires.1 t) v (c.lay_if-2.ensures.1 t) in
-    let z : 4 * a.m - 0 ≡ 4 * a.m = omega arith in
+    let z : 4 * a.u.m - 0 ≡ 4 * a.u.m = omega arith in
     let over = over_if (bit a.g 4) Alternate (after_centre a.g) zs in
     let all = underlay_over a.rails.a.now a.rails.b.now a.rails.course.sync.now a.g qs zs e f in
     let h : 0 + 2 * length (runs_over a.g qs ++ over) ≤ length a.out.now = rw all (omega (arith, c.requires.4)) in
@@ -96,13 +96,13 @@ returns c =
     let a = c.args in
     let r = rails_of a.rails.a.now a.rails.b.now a.rails.course.sync.now in
     let w = c.lay_if.new.work in
-    let qs = pairs_in (points (take (4 * a.n) w)) in
+    let qs = pairs_in (points (take (4 * a.u.n) w)) in
     let e : runs a.g ≡ true → qs ≡ pairs r a.g.run_len = λ t. fit_laid (c.requires.0 t) w (c.lay_if.ensures.1 (c.runs.ensures ∙ t)) in
-    let y : 4 * a.n - 0 ≡ 4 * a.n = omega arith in
+    let y : 4 * a.u.n - 0 ≡ 4 * a.u.n = omega arith in
     let v = c.lay_if-2.new.work in
-    let zs = pairs_in (points (take (4 * a.m) v)) in
+    let zs = pairs_in (points (take (4 * a.u.m) v)) in
     let f : bit a.g 4 ≡ true → zs ≡ pairs r zigzag_underlay_spacing = λ t. fit_laid (c.requires.1 t) v (c.lay_if-2.ensures.1 t) in
-    let z : 4 * a.m - 0 ≡ 4 * a.m = omega arith in
+    let z : 4 * a.u.m - 0 ≡ 4 * a.u.m = omega arith in
     let over = over_if (bit a.g 4) Alternate (after_centre a.g) zs in
     let all = underlay_over a.rails.a.now a.rails.b.now a.rails.course.sync.now a.g qs zs e f in
     let h : 0 + 2 * length (runs_over a.g qs ++ over) ≤ length a.out.now = rw all (omega (arith, c.requires.4)) in
