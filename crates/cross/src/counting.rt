@@ -15,6 +15,7 @@ fn count_runs(row: Row) -> Count
     let mut s = 0;
     let mut at = 0;
     let mut i = 0;
+    // kept (3): no plainer: the next run is looked for where the last one ends, so an iterator would be this cursor in a struct
     while let Some(run) = row.next_run(i) {
         s += 1;
         at += 4 * run.many;

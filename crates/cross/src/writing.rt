@@ -71,6 +71,7 @@ fn put_runs(out: &mut [f64], stops: &mut [usize], done: Count, row: Row) -> Coun
     let mut s = done.lines;
     let mut at = done.points;
     let mut i = 0;
+    // kept (3): no plainer: the next run is looked for where the last one ends, so an iterator would be this cursor in a struct
     while let Some(run) = row.next_run(i) {
         put_run(out, 2 * at, row.badge, row.y, run);
         at += 4 * run.many;

@@ -1,4 +1,5 @@
 // A walk in the slice w of n grid points. Its first n numbers mark the free points, the next n hold the stack, from their end down, and the 2n behind these the points of all paths.
+// kept (6): rule: document 01 lends one slice of whole numbers for the walks; no heap
 ghost use Rattle.std.specs.Prelude.{◌≡◌, true, ◌∷◌, ◌+◌, ◌*◌, ◌<◌, ◌≤◌, length, take};
 ghost use Rattle.meander_rules.specs.Meander.{is_free, go_on, go_back};
 ghost use Rattle.wander.specs.Walking.{walk_in, Sized, Stepped};

@@ -83,6 +83,7 @@ fn walk(w: &mut [usize], ground: Ground, first: Steps) -> Steps
 {
     let last = 2 * (ground.grid.columns * ground.grid.rows);
     let mut s = first;
+    // kept (3): no plainer: the walk ends where its stack is empty, so a range would need a break
     while s.top < last {
         s = turn(w, ground, s);
     }

@@ -1,8 +1,10 @@
 -- `neighbours` meets its contract. Assumes nothing.
 use native.Mathlib.Omega.{arith}
-use mathlib.Core.Path.{◌≡◌}
+use mathlib.Core.Path.{◌≡◌, ap, ◌∙◌}
+use mathlib.Core.List.{List, [], ◌++◌}
 use Prim.Native.Nat.{ℕ, ◌+◌, ◌-◌, ◌/◌, ◌%◌, ◌≤◌, ◌<◌}
 use lib.Dec.{ltb}
+use Rattle.seqs.specs.Lists.{keep_if}
 use Rattle.wander.specs.WayLaws.{some_columns, back_column, back_row, keep_same, ways_added}
 use Rattle.wander.proofs.ways.neighbours.Goals as goal
 
@@ -16,4 +18,6 @@ returns c =
     let w = a.g.columns in
     let x = keep_same (ltb 0 (a.here % w)) (λ t. back a.here 1 (back_column w a.here t) (omega arith) (omega arith)) in
     let y = keep_same (ltb 0 (a.here / w)) (λ t. back a.here w (back_row w a.here t) (omega arith) (some_columns w a.g.rows a.here c.requires.0)) in
-    rw (c.push_if-4.ensures.0, c.push_if-3.ensures.0, c.push_if-2.ensures.0, c.push_if.ensures.0, c.new-ways.ensures, x, y) (ways_added a.g a.here)
+    let left : c.push_if.new.ways.items ≡ keep_if (ltb 0 (a.here % w)) (a.here - 1) [] = c.push_if.ensures.0 ∙ rw c.new-ways.ensures x in
+    let up : c.push_if-3.new.ways.items ≡ c.push_if-2.new.ways.items ++ keep_if (ltb 0 (a.here / w)) (a.here - w) [] = c.push_if-3.ensures.0 ∙ ap (λ (k : List ℕ). c.push_if-2.new.ways.items ++ k) y in
+    rw (c.push_if-4.ensures.0, up, c.push_if-2.ensures.0, left) (ways_added a.g a.here)
