@@ -9,6 +9,7 @@ use Rattle.geom.specs.OutlineLaws.{points_length, rising_le}
 use Rattle.rules.specs.declared.Settings.{Settings}
 use Rattle.rules.specs.Fill.{kept_side, sides, turned, edges}
 use Rattle.rules.proofs.Counts.{ring_edges_lem}
+use Rattle.edges.specs.Table.{ring_edges}
 
 -- rings that are cut from a list have no more kept edges than it has corners
 cut_few : (g : Settings) (a : ℕ) (ends : List ℕ) (l : List P) → rising a ends (length l) ≡ true → length (edges g (cut a ends l)) ≤ length l - a
@@ -24,3 +25,8 @@ unfolding rings
 outline_few g corners ends h =
     let n = points_length corners in
     omega (arith, n, cut_few g 0 ends (points corners) (rw n h.rise))
+
+-- a ring that is a part of the corner list has no more kept edges than corners
+pub flat_few : (g : Settings) (l : List Float) → length (ring_edges g (points l)) ≤ length l / 2
+unfolding ring_edges
+flat_few g l = omega (arith, ring_edges_lem g (points l), points_length l)

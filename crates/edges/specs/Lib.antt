@@ -6,3 +6,5 @@ pub mod SpanLaws
 pub mod EdgeCount
 pub mod Sides
 pub mod SidesLaws
+pub mod Kept
+pub mod SideLaws

@@ -1,11 +1,11 @@
 -- The rows of a list of edges, from its top and bottom; that row numbers fit. Assumes nothing.
-use Rattle.std.specs.Prelude.{ℕ, ◌+◌, ◌≤◌, ◌<◌, ◌≡◌, min, Bool, true, false, ℤ, pos, nat_abs, ◌+ℤ◌, ◌-ℤ◌, length, Float}
+use Rattle.std.specs.Prelude.{ℕ, ◌+◌, ◌^◌, ◌≤◌, ◌<◌, ◌≡◌, min, Bool, true, false, ℤ, pos, negsuc, nat_abs, ◌+ℤ◌, ◌-ℤ◌, length, Float}
 use Rattle.std.proofs.Common.{arith, sym, ◌∙◌, SFits}
 use Rattle.std.proofs.Math.Path.{refl, ap}
 use Rattle.std.proofs.Math.Logic.{inl, inr}
 use mathlib.Core.List.{List, [], ◌∷◌}
 use Rattle.std.proofs.lemmas.List.{length-map}
-use Rattle.std.specs.Int.Signed.{le_z}
+use Rattle.std.specs.Int.Signed.{le_z, lt_z}
 use Rattle.std.specs.Float.Ieee.{to_signed}
 use Rattle.std.specs.Float.Ieee.Casts.{to_signed_in}
 use Rattle.std.specs.Int.{w64}
@@ -15,9 +15,9 @@ use Rattle.numbers.specs.Whole.{floor, ceil}
 use Rattle.seqs.specs.Lists.{fold, upto}
 use Rattle.seqs.specs.Slices.{capped}
 use Rattle.seqs.specs.Tests.{either, clash}
-use Rattle.seqs.specs.Capped.{capped_in, capped_cases}
+use Rattle.seqs.specs.Capped.{capped_in, capped_over, capped_cases}
 use Rattle.seqs.specs.Upto.{upto_length}
-use Rattle.seqs.specs.Ints.{above, below, gap, le_makes, add_parts, sub_parts_is, fits_between}
+use Rattle.seqs.specs.Ints.{above, below, gap, le_makes, lt_says, lt_denies, fits_says, add_parts, sub_parts_is, fits_between}
 use Rattle.rules.specs.declared.Settings.{Settings}
 use Rattle.rules.specs.declared.Edge.{Edge}
 use Rattle.rules.specs.Fill.{ymin, ymax, k_lo, k_hi, how_many, through, row_numbers}
@@ -73,6 +73,29 @@ module _ (lo hi : ℤ) (h : le_z lo hi ≡ true) where
   -- no difference of two row numbers wraps
   pub many_capped : min (nat_abs (hi -ℤ lo)) 4096 + 1 ≡ capped 4096 (how_many lo hi)
   many_capped = elim (capped_cases 4096 (how_many lo hi)) [ inl w ↦ omega (arith, w, many) | inr w ↦ omega (arith, w, many) ]
+
+  pub many_few : nat_abs (hi -ℤ lo) < 4096 → nat_abs (hi -ℤ lo) + 1 ≡ capped 4096 (how_many lo hi)
+  many_few k = sym many ∙ sym (capped_in 4096 (how_many lo hi) (omega (arith, many)))
+
+  pub many_over : 4096 ≤ nat_abs (hi -ℤ lo) → 4097 ≡ capped 4096 (how_many lo hi)
+  many_over k = sym (capped_over 4096 (how_many lo hi) (omega (arith, many)))
+
+  -- where the difference is small enough to be worked out
+  pub gap_low : lt_z hi (pos 0) ≡ true → SFits w64 lo → nat_abs (hi -ℤ lo) < 2 ^ 63
+  gap_low k f = omega (arith, gap lo hi h, lt_says hi (pos 0) k, fits_says lo f)
+
+  pub gap_high : lt_z lo (pos 0) ≡ false → SFits w64 hi → nat_abs (hi -ℤ lo) < 2 ^ 63
+  gap_high k f = omega (arith, gap lo hi h, lt_denies lo (pos 0) k, fits_says hi f)
+
+  pub gap_about : lt_z lo (negsuc 4095) ≡ false → lt_z (pos 4096) hi ≡ false → nat_abs (hi -ℤ lo) < 2 ^ 63
+  gap_about k f = omega (arith, gap lo hi h, lt_denies lo (negsuc 4095) k, lt_denies (pos 4096) hi f)
+
+  -- and where it is too large to matter
+  pub gap_below : lt_z lo (negsuc 4095) ≡ true → lt_z hi (pos 0) ≡ false → 4096 ≤ nat_abs (hi -ℤ lo)
+  gap_below k f = omega (arith, gap lo hi h, lt_says lo (negsuc 4095) k, lt_denies hi (pos 0) f)
+
+  pub gap_above : lt_z (pos 4096) hi ≡ true → lt_z lo (pos 0) ≡ true → 4096 ≤ nat_abs (hi -ℤ lo)
+  gap_above k f = omega (arith, gap lo hi h, lt_says (pos 4096) hi k, lt_says lo (pos 0) f)
 
 pub many_none : (lo hi : ℤ) → le_z lo hi ≡ false → 0 ≡ capped 4096 (how_many lo hi)
 unfolding how_many

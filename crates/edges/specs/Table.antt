@@ -1,16 +1,34 @@
 -- The kept edges in a slice of floats: edge i as a block of five at 5·i. Definitions only.
-use Rattle.std.specs.Prelude.{ℕ, ◌*◌, ◌≤◌, Bool, true, false, cond, List, [], ◌∷◌, pos, length, get_or, Float, Option, Some, None}
+use Rattle.std.specs.Prelude.{ℕ, ◌+◌, ◌*◌, ◌≤◌, Bool, true, false, cond, List, [], ◌∷◌, ltb, pos, length, get_or, Float, Option, Some, None}
 use Rattle.std.specs.Float.{nan, fin}
-use Rattle.std.specs.Float.Ieee.{lt}
+use Rattle.std.specs.Float.Ieee.{neg, lt}
 use Rattle.numbers.specs.Num.{zero64}
+use Rattle.seqs.specs.Lists.{each}
 use Rattle.seqs.specs.Slices.{blocks}
+use Rattle.geom.specs.declared.point.P.{P}
+use Rattle.geom.specs.Point.{rotate}
 use Rattle.geom.specs.Outline.{Layout}
+use Rattle.geom.specs.OutlineLaws.{corner_at}
+use Rattle.rules.specs.declared.Settings.{Settings}
 use Rattle.rules.specs.declared.Edge.{Edge}
+use Rattle.rules.specs.Fill.{kept_side, sides, turned}
 
 -- what a side gives the list of edges
 abbrev pub found : Option Edge → List Edge
 found (Some e) = e ∷ []
 found None = []
+
+-- the turned corner at place i of a flat list (cited by theorems alone)
+abbrev pub corner : Settings → List Float → ℕ → P
+corner g l i = rotate (corner_at l i) g.cosine (neg g.sine)
+
+-- the place after i in a ring of n coordinates (cited by theorems alone)
+abbrev pub following : ℕ → ℕ → ℕ
+following i n = cond (ltb (i + 3) n) (i + 2) 0
+
+-- the kept edges of one ring (cited by theorems alone)
+unfoldable pub ring_edges : Settings → List P → List Edge
+ring_edges g ring = each kept_side (sides (turned g ring))
 
 -- 1 or -1
 unfoldable pub direction : Bool → Float

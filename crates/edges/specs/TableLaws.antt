@@ -1,15 +1,17 @@
 -- Laws of the edge table. Assumes nothing.
-use Rattle.std.specs.Prelude.{ℕ, zero, suc, ◌+◌, ◌*◌, ◌/◌, ◌≤◌, ◌≡◌, refl, Bool, true, false, List, ◌∷◌, ◌++◌, map, length, take, drop, Float}
+use Rattle.std.specs.Prelude.{ℕ, zero, suc, ◌+◌, ◌*◌, ◌/◌, ◌≤◌, ◌<◌, ◌≡◌, refl, Bool, true, false, List, ◌∷◌, ◌++◌, map, length, take, drop, get_or, Float}
 use Rattle.std.proofs.Common.{arith, ap, ◌∙◌, length-take-le, take-take}
 use Rattle.std.specs.Simd.{first_chunks}
+use Rattle.std.specs.Float.{nan}
 use Rattle.std.specs.Float.Ieee.{lt}
 use Rattle.numbers.specs.Num.{zero64}
 use Rattle.seqs.specs.Lists.{each}
 use Rattle.seqs.specs.Records.{Added}
 use Rattle.seqs.specs.Slices.{blocks}
 use Rattle.seqs.specs.Each.{each_length}
-use Rattle.seqs.specs.Blocks.{blocks_length, blocks_kept, blocks_back}
+use Rattle.seqs.specs.Blocks.{blocks_length, blocks_read, blocks_past, blocks_kept, blocks_back}
 use Rattle.rules.specs.declared.Edge.{Edge}
+use Rattle.rules.specs.Fill.{edge, no_edge}
 use Rattle.edges.specs.Table.{direction, edge_block, block_edge, edge_place, edges_in}
 
 direction_back : (b : Bool) → lt zero64 (direction b) ≡ b
@@ -31,6 +33,16 @@ edges_length es = each_length edge_block 5 (λ e. refl) es
 pub in_length : (n : ℕ) (l : List Float) → length (edges_in n l) ≡ n
 unfolding edges_in
 in_length n l = blocks_length 5 block_edge n l
+
+-- edge i, as the code reads it
+pub in_read : (n : ℕ) (l : List Float) (i : ℕ) → i < n → 5 * n ≤ length l
+    → edge (edges_in n l) i ≡ record { y0 = get_or l (5 * i) nan; y1 = get_or l (5 * i + 1) nan; x0 = get_or l (5 * i + 2) nan; dxdy = get_or l (5 * i + 3) nan; falls = lt zero64 (get_or l (5 * i + 4) nan) }
+unfolding edges_in
+in_read n l i h k = blocks_read 5 block_edge n l nan i no_edge h k
+
+pub in_past : (n : ℕ) (l : List Float) (i : ℕ) → n ≤ i → edge (edges_in n l) i ≡ no_edge
+unfolding edges_in
+in_past n l i h = blocks_past 5 block_edge n l i no_edge h
 
 -- what is written behind the table leaves it as it is
 pub in_kept : (n k : ℕ) (l m : List Float) → 5 * n ≤ k → take k l ≡ take k m → edges_in n l ≡ edges_in n m
