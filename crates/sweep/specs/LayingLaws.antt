@@ -1,5 +1,5 @@
 -- A row after the other, in slices of their own. Assumes nothing.
-use Rattle.std.specs.Prelude.{ℕ, ◌+◌, ◌-◌, ◌*◌, ◌≤◌, ◌<◌, ◌≡◌, refl, Bool, List, ◌∷◌, map, ℤ, take, drop, replicate, Float}
+use Rattle.std.specs.Prelude.{ℕ, ◌+◌, ◌-◌, ◌*◌, ◌≤◌, ◌<◌, ◌≡◌, refl, Bool, List, [], ◌∷◌, map, ℤ, take, drop, replicate, Float}
 use Rattle.std.proofs.Common.{arith, ◌∙◌}
 use Rattle.std.proofs.Math.Path.{sym, ap, subst}
 use Rattle.std.proofs.Math.ListN.{length, length-take}
@@ -7,8 +7,8 @@ use Rattle.std.proofs.lemmas.List.{length-replicate, length-map}
 use Rattle.seqs.specs.Lists.{each}
 use Rattle.seqs.specs.Slices.{Wrote}
 use Rattle.seqs.specs.Records.{Added}
-use Rattle.seqs.specs.Wrote.{Run, run_at, run_step, run_end}
-use Rattle.seqs.specs.Adding.{Adding, adding_at, adding_step, adding_end}
+use Rattle.seqs.specs.Wrote.{Run, run_start, run_at, run_step, run_end}
+use Rattle.seqs.specs.Adding.{Adding, adding_start, adding_at, adding_step, adding_end}
 use Rattle.outlines.specs.declared.rule.FillRule.{FillRule}
 use Rattle.rules.specs.declared.Settings.{Settings}
 use Rattle.rules.specs.declared.Edge.{Edge}
@@ -51,6 +51,11 @@ module _ (w : Rows) (upward : Bool) (rule : FillRule) (g : Settings) (es : List 
     pub bound : s.i ≤ length l₀ * r
     pub pieces : Adding block_place piece_block d₀ d 0 s.i (each (λ l. l) (rows_left s.live l r)) (each (λ l. l) whole)
     pub counts : Run a₀ a 0 s.i (row_counts r (rows_left s.live l r)) (row_counts 0 whole)
+
+  pub laying_start : (d : List Float) (a l : List ℕ) → Laying d d a a l l (record { live = record { m = 0; next = 0 }; i = 0 }) 0 (swept upward rule g es [] l (numbers w upward 0))
+  laying_start d a l =
+      let whole = swept upward rule g es [] l (numbers w upward 0) in
+      record { le = omega arith; few = omega arith; on = omega arith; size = refl; bound = omega arith; pieces = adding_start block_place piece_block d 0 (each (λ l. l) whole); counts = run_start a (row_counts 0 whole) 0 }
 
   module _ {d₀ d : List Float} {a₀ a l₀ l : List ℕ} {q : Done} {r : ℕ} {whole : List (List Piece)} (v : Laying d₀ d a₀ a l₀ l q r whole) where
     pub laying_end : w.n ≤ r → Written q.i whole d₀ d a₀ a

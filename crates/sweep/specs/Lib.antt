@@ -10,3 +10,4 @@ pub mod LaidLaws
 pub mod Laying
 pub mod LayingLaws
 pub mod Pieces
+pub mod Step

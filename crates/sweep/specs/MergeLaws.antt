@@ -1,22 +1,30 @@
 -- What is proved of merging: it orders, and halves in order make a whole in order. Assumes nothing.
-use Rattle.std.specs.Prelude.{ℕ, ◌+◌, ◌≤◌, ◌<◌, ◌≡◌, Bool, cond, get_or, set, slice_get, Some, None}
-use Rattle.std.proofs.Common.{arith, ◌∙◌, add-one, append-nil, append_assoc, drop-cons, length-drop, length-set, take_all, take_at, take-suc-set}
+use Rattle.std.specs.Prelude.{ℕ, ◌+◌, ◌-◌, ◌*◌, ◌≤◌, ◌<◌, ◌≡◌, Bool, cond, get_or, set, slice_get, Some, None}
+use Rattle.std.proofs.Common.{arith, ◌∙◌, add-one, append-nil, append_assoc, drop_at, drop-cons, length-append, length-drop, length-set, take-add, take_all, take_at, take-suc-set, take-take}
 use Rattle.std.proofs.Math.Path.{refl, sym, ap}
 use Rattle.std.proofs.Math.Bool.{true, false}
 use Rattle.std.proofs.Math.Logic.{inl, inr}
 use mathlib.Core.List.Permᴰ
 use mathlib.Core.List.{List, [], ◌∷◌, ◌++◌, Permᴰ}
 use Rattle.std.proofs.Math.ListN.{length, take, drop}
-use Rattle.std.proofs.lemmas.List.{take-append-drop}
-use Rattle.seqs.specs.Lists.{fold, insert_back, sort_by, All, Ordered, Strict}
+use Rattle.std.proofs.Math.Seq.{length-take-le, drop-drop, take-append-add}
+use Rattle.std.proofs.lemmas.List.{take-append-drop, take-append-le}
+use Rattle.seqs.specs.Lists.{fold, insert_back, sort_by, upto, All, Ordered, Strict}
 use Rattle.seqs.specs.Tests.{either, clash}
 use Rattle.seqs.specs.All.{all_map, all_perm, all_append}
 use Rattle.seqs.specs.Sort.{sort_perm, sort_ordered, backs_sort, ordered_sort}
+use Rattle.seqs.specs.Slices.{put}
+use Rattle.seqs.specs.Put.{put_length, put_then}
+use Rattle.seqs.specs.Wrote.{head_length}
+use Rattle.seqs.specs.Reads.{drop_take, take_on, part_on, drop_on, whole}
+use Rattle.seqs.specs.Parts.{head_size, head_is}
+use Rattle.seqs.specs.Upto.{upto_length}
 use Rattle.rules.specs.declared.Edge.{Edge}
 use Rattle.sweep.specs.declared.key.Key.{Key}
-use Rattle.sweep.specs.Swept.{by, ordered}
+use Rattle.sweep.specs.declared.key.Key.TheVariants.{Top, Bottom}
+use Rattle.sweep.specs.Swept.{by, ordered, waiting}
 use Rattle.sweep.specs.SweptLaws.{ordered_length}
-use Rattle.sweep.specs.Merge.{into, merge_by, left_next}
+use Rattle.sweep.specs.Merge.{into, merge_by, left_next, PartOrdered, Waited}
 
 -- ---- one step
 
@@ -166,3 +174,170 @@ module _ {A : Type 0} (le : A → A → Bool) where
         empty : (l : List A) → length l ≤ 0 → l ≡ []
         empty [] h = refl
         empty (x ∷ l) h = absurd (omega arith)
+
+-- ---- blocks that are put
+
+module _ {A : Type 0} (d m : List A) (k : ℕ) (h : k + length m ≤ length d) where
+  put_whole : length (take k d ++ m) ≡ k + length m
+  put_whole = head_length d m k (omega arith)
+
+  pub put_before : (j : ℕ) → j ≤ k → take j (put d k m) ≡ take j d
+  put_before j g = take_on (put d k m) d j k g (take-append-le k (take k d ++ m) (drop (length (take k d ++ m)) d) (omega (arith, put_whole)) ∙ take_at (take k d) m k (length-take-le k d (omega arith)))
+
+  pub put_behind : (j : ℕ) → k + length m ≤ j → drop j (put d k m) ≡ drop j d
+  put_behind j g = drop_on (put d k m) d (length (take k d ++ m)) j (omega (arith, put_whole)) (drop_at (take k d ++ m) (drop (length (take k d ++ m)) d) (length (take k d ++ m)) refl)
+
+  pub put_there : take (length m) (drop k (put d k m)) ≡ m
+  put_there =
+      let rest = drop (length (take k d ++ m)) d in
+      ap (λ l. take (length m) (drop k l)) (append_assoc (take k d) m rest) ∙ ap (take (length m)) (drop_at (take k d) (m ++ rest) k (length-take-le k d (omega arith))) ∙ take_at m rest (length m) refl
+
+  -- one block over another of its length
+  pub put_over : (b : List A) → length b ≡ length m → put (put d k m) k b ≡ put d k b
+  put_over b e =
+      let q : length (take k d ++ b) ≡ k + length m = head_length d b k (omega arith) ∙ omega (arith, e) in
+      rw (put_before k (omega arith), q, put_behind (k + length m) (omega arith))
+
+  -- the first e of it, where the block stands among them
+  pub put_first : (e : ℕ) → k + length m ≤ e → e ≤ length d → take e (put d k m) ≡ put (take e d) k m
+  put_first e g f =
+      let p = take k d ++ m in
+      let s : length p + (e - length p) ≡ e = omega (arith, put_whole) in
+      let t : take e (p ++ drop (length p) d) ≡ p ++ drop (length p) (take e d) = rw s at (take-append-add p (drop (length p) d) (e - length p) ∙ ap (λ (l : List A). p ++ l) (drop_take (length p) (e - length p) d)) in
+      rw (take-take k e d (omega arith)) t
+
+-- ---- a part in order
+
+part_length : {A : Type 0} (d : List A) (from n : ℕ) → from + n ≤ length d → length (take n (drop from d)) ≡ n
+part_length d from n h = length-take-le n (drop from d) (omega (arith, length-drop from d))
+
+-- a part of the first e is that part
+first_part : {A : Type 0} (d : List A) (e from n : ℕ) → from + n ≤ e → take n (drop from d) ≡ take n (drop from (take e d))
+first_part d e from n h = part_on d (take e d) from n e h (sym (take-take e e d (omega arith)))
+
+-- two parts that stand one after the other
+module _ {A : Type 0} (d x y : List A) (from h n : ℕ) (is : take n (drop from d) ≡ x ++ y) (size : length x ≡ h) (half : h ≤ n) where
+  left_part : drop from (take (from + h) d) ≡ x
+  left_part = sym (drop_take from h d) ∙ sym (take-take h n (drop from d) half) ∙ ap (take h) is ∙ take_at x y h size
+
+  right_part : drop (from + h) (take (from + n) d) ≡ y
+  right_part = sym (drop-drop h from (take (from + n) d)) ∙ ap (drop h) (sym (drop_take from n d) ∙ is) ∙ drop_at x y h size
+
+module _ (key : Key) (es : List Edge) (e from n : ℕ) (d : List ℕ) (within : from + n ≤ e) (room : 2 * e ≤ length d) where
+  size_e : length (take e d) ≡ e
+  size_e = length-take-le e d (omega arith)
+
+  -- by insertion
+  inserted : (y : List ℕ) → y ≡ ordered key es (take n (drop from d)) → PartOrdered key es e from n d (take from d ++ (y ++ drop n (drop from d)))
+  inserted y f =
+      let c : length y ≡ n = ap length f ∙ ordered_length key es (take n (drop from d)) ∙ part_length d from n (omega arith) in
+      let w : from + n ≡ length (take from d ++ y) = omega (arith, c, head_length d y from (omega arith)) in
+      let q : drop n (drop from d) ≡ drop (length (take from d ++ y)) d = drop-drop n from d ∙ ap (λ (k : ℕ). drop k d) w in
+      let p : take from d ++ (y ++ drop n (drop from d)) ≡ put d from y = rw q (sym (append_assoc (take from d) y (drop (length (take from d ++ y)) d))) in
+      let g : y ≡ ordered key es (take n (drop from (take e d))) = f ∙ ap (ordered key es) (first_part d e from n within) in
+      record {
+        size = ap length p ∙ put_length d y from (omega (arith, c));
+        is = ap (take e) p ∙ put_first d y from (omega (arith, c)) e (omega (arith, c)) (omega arith) ∙ ap (put (take e d) from) g;
+      }
+
+  pub part_inserted : (k : ℕ) → k ≡ n → (y : List ℕ) → y ≡ ordered key es (take k (drop from d)) → PartOrdered key es e from n d (take from d ++ (y ++ drop k (drop from d)))
+  part_inserted k z y f = rw z (inserted y (rw z at f))
+
+  -- by halves
+  module _ (strict : Strict (by key es)) (h : ℕ) (half : h ≤ n) {d₁ d₂ d₃ : List ℕ}
+      (one : PartOrdered key es e from h d d₁) (two : PartOrdered key es e (from + h) (n - h) d₁ d₂)
+      (three : d₃ ≡ put d₂ (e + from) (merge_by (by key es) (drop from (take (from + h) d₂)) (drop (from + h) (take (from + n) d₂)))) where
+    x : List ℕ
+    x = take h (drop from (take e d))
+
+    y : List ℕ
+    y = take (n - h) (drop (from + h) (take e d))
+
+    s : List ℕ
+    s = ordered key es (take n (drop from (take e d)))
+
+    x_size : length (ordered key es x) ≡ h
+    unfolding x
+    x_size = ordered_length key es x ∙ part_length (take e d) from h (omega (arith, size_e))
+
+    y_size : length (ordered key es y) ≡ n - h
+    unfolding y
+    y_size = ordered_length key es y ∙ part_length (take e d) (from + h) (n - h) (omega (arith, size_e))
+
+    s_size : length s ≡ n
+    unfolding s
+    s_size = ordered_length key es (take n (drop from (take e d))) ∙ part_length (take e d) from n (omega (arith, size_e))
+
+    both_size : length (ordered key es x ++ ordered key es y) ≡ n
+    both_size = length-append (ordered key es x) (ordered key es y) ∙ omega (arith, x_size, y_size)
+
+    joined : x ++ y ≡ take n (drop from (take e d))
+    unfolding x y
+    joined =
+        let z : h + (n - h) ≡ n = omega arith in
+        rw (← drop-drop h from (take e d)) (sym (rw z at (take-add h (n - h) (drop from (take e d)))))
+
+    after_one : take e d₁ ≡ put (take e d) from (ordered key es x)
+    unfolding x
+    after_one = one.is
+
+    y_kept : take (n - h) (drop (from + h) (take e d₁)) ≡ y
+    unfolding y
+    y_kept = ap (λ l. take (n - h) (drop (from + h) l)) after_one ∙ ap (take (n - h)) (put_behind (take e d) (ordered key es x) from (omega (arith, x_size, size_e)) (from + h) (omega (arith, x_size)))
+
+    after_two : take e d₂ ≡ put (take e d) from (ordered key es x ++ ordered key es y)
+    after_two = put_then (take e d) (take e d₁) (take e d₂) (ordered key es x) (ordered key es y) from (from + h) (omega (arith, x_size, size_e)) after_one (omega (arith, x_size)) (rw y_kept at two.is)
+
+    stands : take n (drop from d₂) ≡ ordered key es x ++ ordered key es y
+    stands = first_part d₂ e from n within ∙ ap (λ l. take n (drop from l)) after_two ∙ (rw both_size at (put_there (take e d) (ordered key es x ++ ordered key es y) from (omega (arith, both_size, size_e))))
+
+    merged : merge_by (by key es) (drop from (take (from + h) d₂)) (drop (from + h) (take (from + n) d₂)) ≡ s
+    unfolding s ordered
+    merged =
+        rw (left_part d₂ (ordered key es x) (ordered key es y) from h n stands x_size half, right_part d₂ (ordered key es x) (ordered key es y) from h n stands x_size half, ← joined)
+        (merge_sorts (by key es) strict x y)
+
+    sizes_two : length d₂ ≡ length d
+    sizes_two = two.size ∙ one.size
+
+    after_three : d₃ ≡ put d₂ (e + from) s
+    after_three = three ∙ ap (put d₂ (e + from)) merged
+
+    pub size_three : length d₃ ≡ length d
+    size_three = ap length after_three ∙ put_length d₂ s (e + from) (omega (arith, s_size, sizes_two)) ∙ sizes_two
+
+    first_three : take e d₃ ≡ put (take e d) from (ordered key es x ++ ordered key es y)
+    first_three = ap (take e) after_three ∙ put_before d₂ s (e + from) (omega (arith, s_size, sizes_two)) e (omega arith) ∙ after_two
+
+    module _ {d₄ : List ℕ} (four : d₄ ≡ put d₃ from (take n (drop (e + from) d₃))) where
+      after_four : d₄ ≡ put d₃ from s
+      after_four =
+          let t : take n (drop (e + from) d₃) ≡ s = ap (λ l. take n (drop (e + from) l)) after_three ∙ (rw s_size at (put_there d₂ s (e + from) (omega (arith, s_size, sizes_two)))) in
+          four ∙ ap (put d₃ from) t
+
+      pub part_halves : PartOrdered key es e from n d d₄
+      unfolding s
+      part_halves = record {
+        size = ap length after_four ∙ put_length d₃ s from (omega (arith, s_size, size_three)) ∙ size_three;
+        is = ap (take e) after_four ∙ put_first d₃ s from (omega (arith, s_size, size_three)) e (omega (arith, s_size)) (omega (arith, size_three)) ∙ ap (λ l. put l from s) first_three
+            ∙ put_over (take e d) (ordered key es x ++ ordered key es y) from (omega (arith, both_size, size_e)) s (omega (arith, s_size, both_size));
+      }
+
+-- ---- all places
+
+module _ (upward : Bool) (es : List Edge) (e : ℕ) (d y : List ℕ) (room : 2 * e ≤ length d) (up : y ≡ upto 0 (length (take e d))) where
+  counted : length y ≡ e
+  counted = ap length up ∙ upto_length 0 (length (take e d)) ∙ length-take-le e d (omega arith)
+
+  pub counted_size : length (y ++ drop e d) ≡ length d
+  counted_size = head_size d y e (omega arith) counted
+
+  pub waited : {key : Key} → key ≡ cond upward Bottom Top → {d' : List ℕ} → length es ≡ e → PartOrdered key es e 0 e (y ++ drop e d) d' → Waited upward es e d d'
+  unfolding waiting
+  waited {key} k {d'} n v =
+      let h : take e (y ++ drop e d) ≡ y = head_is d y e (omega arith) counted in
+      let t : take e y ≡ y = take_all e y (omega (arith, counted)) in
+      let w : take e d' ≡ put y 0 (ordered key es (take e y)) = rw h at v.is in
+      let u : put y 0 (ordered key es (take e y)) ≡ ordered key es y = rw t (whole (ordered key es y) y (ordered_length key es y)) in
+      let q : length (take e d) ≡ length es = length-take-le e d (omega arith) ∙ sym n in
+      record { size = v.size ∙ counted_size; is = w ∙ u ∙ ap (ordered key es) (up ∙ ap (upto 0) q) ∙ ap (λ (x : Key). ordered x es (upto 0 (length es))) k }
