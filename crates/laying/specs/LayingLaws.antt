@@ -1,12 +1,29 @@
--- The pieces that are laid, as the later stages read them. Assumes nothing.
-use Rattle.std.specs.Prelude.{ℕ, ◌*◌, ◌≤◌, ◌≡◌, List, ◌++◌, length, take, Float}
-use Rattle.std.proofs.Common.{arith, ap, ◌∙◌, refl, take_at}
+-- The stripe of places in order, and the pieces that are laid, as the later stages read them. Assumes nothing.
+use Rattle.std.specs.Prelude.{ℕ, ◌*◌, ◌≤◌, ◌≡◌, Bool, List, ◌++◌, length, take, drop, Float}
+use Rattle.std.proofs.Common.{arith, ap, ◌∙◌, refl, length-take-le, take_at}
 use Rattle.seqs.specs.Lists.{each}
 use Rattle.seqs.specs.Each.{each_length}
+use Rattle.seqs.specs.Parts.{head_size, head_take}
+use Rattle.rules.specs.declared.Edge.{Edge}
 use Rattle.rules.specs.declared.Piece.{Piece}
 use Rattle.rules.specs.PieceTable.{piece_block, row_counts}
+use Rattle.sweep.specs.Swept.{waiting}
+use Rattle.sweep.specs.Merge.{Waited}
 use Rattle.sweep.specs.LaidLaws.{counts_length, wrote_there}
 use Rattle.laying.specs.Laying.{Laid}
+
+-- the rows over places that were put in order first: the stripe that is lent is the first e places
+module _ {upward : Bool} {es : List Edge} (e : ℕ) (a : List ℕ) {b : List ℕ} (h : 2 * e ≤ length a) (v : Waited upward es e (take (2 * e) a) b) where
+  sized : length b ≡ 2 * e
+  sized = v.size ∙ length-take-le (2 * e) a h
+
+  pub waited_size : length (b ++ drop (2 * e) a) ≡ length a
+  waited_size = head_size a b (2 * e) h sized
+
+  pub stripe_waits : take e (b ++ drop (2 * e) a) ≡ waiting upward es
+  stripe_waits = head_take a b (2 * e) h sized e (omega arith) ∙ v.is
+
+-- ---- what is laid, as the later stages are lent it
 
 module _ (n : ℕ) (rows : List (List Piece)) {d d' : List Float} {a a' : List ℕ} (l : Laid n rows d d' a a') where
   pub laid_count : n ≡ length (each (λ r. r) rows)
