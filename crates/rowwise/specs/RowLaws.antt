@@ -1,5 +1,5 @@
 -- A row's pieces from one crossing to the next are those of the row taken alone, and all rows one after the other the fill's. Assumes nothing.
-use Rattle.std.specs.Prelude.{ℕ, suc, ◌+◌, ◌-◌, ◌*◌, ◌≤◌, ◌<◌, ◌≡◌, refl, Bool, true, false, not, ◌&&◌, cond, ltb, ℤ, ◌+ℤ◌, pos, take, replicate, Float, Option, Some, None}
+use Rattle.std.specs.Prelude.{ℕ, suc, ◌+◌, ◌-◌, ◌*◌, ◌≤◌, ◌<◌, ◌≡◌, refl, Bool, true, false, not, ◌&&◌, cond, ltb, ℤ, ◌+ℤ◌, pos, take, replicate, Float}
 use native.Mathlib.Omega.{arith}
 use Rattle.std.proofs.Math.Path.{sym, ap, subst}
 use Rattle.std.proofs.Common.{◌∙◌, take_at, lt-ltb}
@@ -51,7 +51,7 @@ use Rattle.finding.specs.declared.Plan.{Plan}
 use Rattle.finding.specs.Stages.{Passed, alone}
 use Rattle.rowwise.specs.Nearest.{none_yet, meet, behind, sides_behind, Inner, Clear, left_after, row_cuts}
 use Rattle.rowwise.specs.NearestLaws.{gathered_all, nearest_none, nearest_next, nearest_fewer}
-use Rattle.rowwise.specs.Rows.{Next, Stepped, place, Putting, Laid, plain_floats, plain_wholes, plain_short, Holds}
+use Rattle.rowwise.specs.Rows.{place, Putting, Laid, plain_floats, plain_wholes, plain_short, Holds}
 
 -- ---- a scan of a row
 
@@ -105,14 +105,6 @@ row_few c es =
     let cs = behind c.y es (inf true) in
     let ss = spans c.rule (pos 0) zero64 cs in
     omega (arith, sift_length (wide_span c) (map (cut_ends c) ss), length-map ss (cut_ends c), spans_few c.rule (pos 0) zero64 cs, sift_length (λ c. before (inf true) c.0) (gathered (unsorted c.y es)), gathered_few (unsorted c.y es), length-map (sift (crosses c.y) es) (cross_at c.y), sift_length (crosses c.y) es)
-
--- what a step says, once it is known which
-module _ (c : Cut) (es : List Edge) (s : Scan) (after : Float) where
-  pub step_end : {r : Option (Span × Scan × Float)} → r ≡ None → Stepped c es s after r → left_after c es s after ≡ []
-  step_end e f = rw e at f
-
-  pub step_found : {r : Option (Span × Scan × Float)} {p : Span} {t : Scan} {x : Float} → r ≡ Some (p, t, x) → Stepped c es s after r → Next c es s after p t x
-  step_found e f = rw e at f
 
 -- ---- a row's pieces
 
