@@ -14,11 +14,12 @@ use Rattle.rules.specs.declared.Settings.{Settings}
 use Rattle.rules.specs.declared.Edge.{Edge}
 use Rattle.rules.specs.Fill.{kept_side, sides_to, sides, turned, edges}
 use Rattle.edges.specs.Kept.{KeptSide, found}
+use Rattle.edges.specs.Kept.KeptSide.{Kept, Dropped}
 use Rattle.edges.specs.Table.{corner, following, ring_edges}
 
 pub found_few : (s : KeptSide) → length (found s) ≤ 1
-found_few (KeptSide.Kept e) = omega arith
-found_few KeptSide.Dropped = omega arith
+found_few (Kept e) = omega arith
+found_few Dropped = omega arith
 
 pub following_in : (i n : ℕ) → i + 1 < n → following i n + 1 < n
 following_in i n h = go (ltb (i + 3) n) refl

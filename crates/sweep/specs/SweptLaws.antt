@@ -27,6 +27,7 @@ use Rattle.sweep.specs.declared.piece.Span.{Span}
 use Rattle.sweep.specs.declared.piece.Scan.{Scan}
 use Rattle.sweep.specs.Swept.{by, ordered, enters, places, cut_at, cut_ends, wide_span, cuts_of, cuts_from, rest_of, cuts, Next, span_block, numbers, swept}
 use Rattle.sweep.specs.Step.{Step, Stepped}
+use Rattle.sweep.specs.Step.Step.{Found, End}
 
 pub ordered_length : (key : Key) (es : List Edge) (l : List ℕ) → length (ordered key es l) ≡ length l
 unfolding ordered
@@ -131,10 +132,10 @@ module _ (w : Rows) (upward : Bool) (rule : FillRule) (g : Settings) (es : List 
 
 module _ (c : Cut) (es : List Edge) (l : List ℕ) (s : Scan) where
   -- what a step says, once it is known which
-  pub step_end : {r : Step} → r ≡ Step.End → Stepped c es l s r → rest_of c es l s ≡ []
+  pub step_end : {r : Step} → r ≡ End → Stepped c es l s r → rest_of c es l s ≡ []
   step_end e f = rw e at f
 
-  pub step_found : {r : Step} {p : Span} {t : Scan} → r ≡ Step.Found p t → Stepped c es l s r → Next c es l s p t
+  pub step_found : {r : Step} {p : Span} {t : Scan} → r ≡ Found p t → Stepped c es l s r → Next c es l s p t
   step_found e f = rw e at f
 
 -- a fill's pieces are few enough to count
