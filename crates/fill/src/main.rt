@@ -4,6 +4,7 @@
 
 ghost use Rattle.std.specs.Prelude.{◌≡◌, ◌++◌, ◌≤◌, length, drop, replicate, IfOk};
 ghost use Rattle.numbers.specs.Num.{zero64};
+ghost use Rattle.tatami.specs.Left.{said_filled};
 ghost use Rattle.layers.specs.Layers.{slices};
 ghost use Rattle.desk.specs.Desk.{job_left};
 ghost use Rattle.desk.specs.Desk2.{job2_left};
@@ -13,6 +14,7 @@ use desk::fill_job;
 use desk::two::fill_job2;
 use jobs::listing;
 use layers::Both;
+use refusal::Refusal;
 use std::io;
 use std::io::{Read, Write};
 use tatami::Filled;
@@ -36,8 +38,8 @@ const SECTIONS: usize = 512;
 const LISTINGS: usize = 450686;
 
 // The job filled.
-fn fill(bytes: &[u8], points: &mut [f64], stops: &mut [usize]) -> Filled
-    ensures { Seen result points.new stops.new (job_left bytes.now 2048 255 points.old stops.old (replicate 8192 zero64) (replicate 8192 0)) }
+fn fill(bytes: &[u8], points: &mut [f64], stops: &mut [usize]) -> Result<Filled, Refusal>
+    ensures { Seen (said_filled result) points.new stops.new (job_left bytes.now 2048 255 points.old stops.old (replicate 8192 zero64) (replicate 8192 0)) }
 {
     let mut corners = [0.0f64; CORNERS];
     let mut ends = [0usize; RINGS];
@@ -62,8 +64,8 @@ fn fill2(
     points2: &mut [f64],
     stops2: &mut [usize],
 ) -> Both
-    ensures seen { Seen result.first points.new stops.new (job2_left bytes.now 2048 255 (slices points.old stops.old (replicate 8192 zero64) (replicate 8192 0)) (slices points2.old stops2.old (replicate 8192 zero64) (replicate 8192 0)) (replicate 8192 zero64) (replicate 8192 0)).first }
-    ensures seen_2 { Seen result.second points2.new stops2.new (job2_left bytes.now 2048 255 (slices points.old stops.old (replicate 8192 zero64) (replicate 8192 0)) (slices points2.old stops2.old (replicate 8192 zero64) (replicate 8192 0)) (replicate 8192 zero64) (replicate 8192 0)).second }
+    ensures seen { Seen (said_filled result.first) points.new stops.new (job2_left bytes.now 2048 255 (slices points.old stops.old (replicate 8192 zero64) (replicate 8192 0)) (slices points2.old stops2.old (replicate 8192 zero64) (replicate 8192 0)) (replicate 8192 zero64) (replicate 8192 0)).first }
+    ensures seen_2 { Seen (said_filled result.second) points2.new stops2.new (job2_left bytes.now 2048 255 (slices points.old stops.old (replicate 8192 zero64) (replicate 8192 0)) (slices points2.old stops2.old (replicate 8192 zero64) (replicate 8192 0)) (replicate 8192 zero64) (replicate 8192 0)).second }
 {
     let mut corners = [0.0f64; CORNERS];
     let mut ends = [0usize; RINGS];
@@ -90,6 +92,16 @@ fn fill2(
     )
 }
 
+// What the head line says of a fill: its answer, how many sections and how many points; none after a refusal.
+fn told(r: Result<Filled, Refusal>) -> (u64, u64, u64)
+    ensures { (result.0 ≡ (said_filled r).answer) × (result.1 ≡ (said_filled r).sections) × (result.2 ≡ (said_filled r).points) }
+{
+    match r {
+        Ok(f) => (0, f.sections, f.points),
+        Err(e) => (u64::from(e), 0, 0),
+    }
+}
+
 // All that is printed of a version 1 job, to the front of `out`; answers how many bytes.
 fn answer1(bytes: &[u8], out: &mut [u8]) -> usize
     requires { 225343 ≤ length out.old }
@@ -99,14 +111,8 @@ fn answer1(bytes: &[u8], out: &mut [u8]) -> usize
     let mut points = [0.0f64; POINTS];
     let mut stops = [0usize; SECTIONS];
     let r = fill(bytes, &mut points, &mut stops);
-    listing(
-        r.answer,
-        r.sections as usize,
-        r.points,
-        &points,
-        &stops,
-        out,
-    )
+    let (answer, sections, many) = told(r);
+    listing(answer, sections as usize, many, &points, &stops, out)
 }
 
 // Of a version 2 job: the second fill's listing behind the first's.
@@ -120,24 +126,10 @@ fn answer2(bytes: &[u8], out: &mut [u8]) -> usize
     let mut points2 = [0.0f64; POINTS];
     let mut stops2 = [0usize; SECTIONS];
     let r = fill2(bytes, &mut points, &mut stops, &mut points2, &mut stops2);
-    let a = r.first;
-    let b = r.second;
-    let k = listing(
-        a.answer,
-        a.sections as usize,
-        a.points,
-        &points,
-        &stops,
-        out,
-    );
-    let m = listing(
-        b.answer,
-        b.sections as usize,
-        b.points,
-        &points2,
-        &stops2,
-        &mut out[k..],
-    );
+    let a = told(r.first);
+    let k = listing(a.0, a.1 as usize, a.2, &points, &stops, out);
+    let b = told(r.second);
+    let m = listing(b.0, b.1 as usize, b.2, &points2, &stops2, &mut out[k..]);
     k + m
 }
 

@@ -15,10 +15,10 @@ unfolding of_bits
 listing-requires c =
     let f = c.fill-r.ensures in
     let t = told_read (lent_left c.args.bytes.now) f.0 f.1 f.2 (job_told (replicate 8192 zero64) (replicate 8192 zero64) (replicate 512 0) (replicate 8192 0) c.args.bytes.now 2048 255) in
-    (t.0, t.1, omega (arith, c.requires))
+    rw c.told-answer.ensures.1 (t.0, t.1, omega (arith, c.requires))
 
 pub returns : goal.returns
 unfolding of_bits printed1
 returns c =
     let f = c.fill-r.ensures in
-    let e = listing_is (lent_left c.args.bytes.now) f.0 f.1 f.2 in record { out_after = c.listing.ensures.out_after ∙ ap (λ l. l ++ drop c.listing.result c.args.out.now) e; value = c.listing.ensures.value.0 ∙ ap length e }
+    let e = listing_is (lent_left c.args.bytes.now) f.0 f.1 f.2 in record { out_after = (rw (c.told-answer.ensures.0, c.told-answer.ensures.1, c.told-answer.ensures.2) at c.listing.ensures.out_after) ∙ ap (λ l. l ++ drop c.listing.result c.args.out.now) e; value = (rw (c.told-answer.ensures.0, c.told-answer.ensures.1, c.told-answer.ensures.2) at c.listing.ensures.value.0) ∙ ap length e }
