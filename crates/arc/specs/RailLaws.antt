@@ -6,8 +6,29 @@ use Rattle.std.specs.Float.Ieee.{nan, lt, le}
 use Rattle.numbers.specs.Num.{◌⊕◌, zero64}
 use Rattle.geom.specs.declared.point.P.{P}
 use Rattle.geom.specs.Point.{dist}
+use Rattle.geom.specs.Outline.{points}
+use Rattle.geom.specs.OutlineLaws.{corner_at, points_next, points_end}
 use Rattle.satinrules.specs.Arc.{lengths_from, lengths, partition_point}
-use Rattle.arc.specs.Rail.{not_beyond}
+use Rattle.arc.specs.Rail.{later_lengths, not_beyond}
+
+-- ---- running lengths from corner i on
+
+module _ (pts : List Float) where
+  pub lengths_next : (s : Float) (p : P) (i : ℕ) → i + 1 < length pts → lengths_from s p (points (drop i pts)) ≡ (s ⊕ dist p (corner_at pts i)) ∷ lengths_from (s ⊕ dist p (corner_at pts i)) (corner_at pts i) (points (drop (i + 2) pts))
+  unfolding lengths_from
+  lengths_next s p i h = rw (points_next pts i h)
+
+  pub lengths_end : (s : Float) (p : P) (i : ℕ) → length pts ≤ i + 1 → lengths_from s p (points (drop i pts)) ≡ []
+  unfolding lengths_from
+  lengths_end s p i h = rw (points_end pts i h)
+
+  pub lengths_start : 2 ≤ length pts → lengths (points pts) ≡ zero64 ∷ later_lengths pts
+  unfolding lengths
+  lengths_start h = rw (points_next pts 0 (omega arith))
+
+  pub lengths_none : length pts < 2 → lengths (points pts) ≡ []
+  unfolding lengths
+  lengths_none h = rw (points_end pts 0 (omega arith))
 
 -- ---- how many running lengths there are
 
