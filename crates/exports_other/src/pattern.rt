@@ -1,7 +1,7 @@
 // Bounds, clipping, cross stitch and meander: each answers document 01's number; the bounds are stored where that is DONE, the counts always, 0 after a refusal.
 ghost use Rattle.std.specs.Prelude.{◌≡◌, length};
 ghost use Rattle.patterns_rules.specs.Answers.{said_count, bounds_answer, clip_said, clip_points, clip_ends, cross_said, cross_points, cross_ends};
-ghost use Rattle.patterns.specs.Said.{said_box};
+ghost use Rattle.patterns.specs.Said.{said_box, box_of};
 ghost use Rattle.meander_rules.specs.Answers.{meander_said, meander_points, meander_ends, meander_wholes};
 ghost use Rattle.exports.specs.Stored.{first_or, rule_of};
 
@@ -17,7 +17,7 @@ fn store_bounds(
     right: &mut f64,
     bottom: &mut f64,
 ) -> u64
-    ensures { (result ≡ (said_box r).number) × (left.new ≡ first_or (λ v. v.left) left.old (said_box r).values) × (top.new ≡ first_or (λ v. v.top) top.old (said_box r).values) × (right.new ≡ first_or (λ v. v.right) right.old (said_box r).values) × (bottom.new ≡ first_or (λ v. v.bottom) bottom.old (said_box r).values) }
+    ensures { (result ≡ (said_box (box_of r)).number) × (left.new ≡ first_or (λ v. v.left) left.old (said_box (box_of r)).values) × (top.new ≡ first_or (λ v. v.top) top.old (said_box (box_of r)).values) × (right.new ≡ first_or (λ v. v.right) right.old (said_box (box_of r)).values) × (bottom.new ≡ first_or (λ v. v.bottom) bottom.old (said_box (box_of r)).values) }
 {
     match r {
         Ok(v) => {
