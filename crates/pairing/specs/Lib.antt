@@ -4,3 +4,7 @@ pub mod Store
 pub mod WalkLaws
 pub mod StoreLaws
 pub mod LaidLaws
+pub mod Walking
+pub mod WalkingLaws
+pub mod Laying
+pub mod LayingLaws
