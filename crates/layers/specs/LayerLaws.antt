@@ -6,7 +6,7 @@ use Rattle.std.proofs.Math.ListN.{length}
 use borrow.Author.Tests.{lt-ltb, le-ltb, ltb-false}
 use Rattle.refusal.specs.declared.Refusal.{Refusal}
 use Rattle.refusal.specs.declared.Refusal.TheVariants.{Work}
-use Rattle.refusal.specs.Refusal.{number, DONE, SETTING, SIZE, WORK, ROOM}
+use Rattle.refusal.specs.Refusal.{number, DONE, SETTING, SIZE, WORK, ROOM, unless}
 use Rattle.seqs.specs.Records.{Added}
 use Rattle.geom.specs.Outline.{rings}
 use Rattle.limits.specs.Limits.{most_rows, good_outline, good_numbers, good_turn}
@@ -90,6 +90,20 @@ unfolding gate
 gate_own corners ends g stagger rest s = rw (s.outline, s.numbers, s.turn)
 
 module _ (corners : List Float) (ends : List ℕ) (t : Plan) where
+  -- 4I and 6I
+  pub own_floats : (floats wholes : ℕ) (fits : Bool) → floats < 4 * length (list_of corners ends t) → layer_roomed corners ends t.rule t.g t.upward floats wholes fits ≡ WORK
+  unfolding layer_roomed
+  own_floats floats wholes fits h = rw (lt-ltb floats (4 * length (list_of corners ends t)) h)
+
+  pub own_wholes : (floats wholes : ℕ) (fits : Bool) → wholes < 6 * length (list_of corners ends t) → layer_roomed corners ends t.rule t.g t.upward floats wholes fits ≡ WORK
+  unfolding layer_roomed
+  own_wholes floats wholes fits h = rw (lt-ltb wholes (6 * length (list_of corners ends t)) h, or-true (ltb floats (4 * length (list_of corners ends t))))
+
+  pub own_enough : (floats wholes : ℕ) (fits : Bool) → 4 * length (list_of corners ends t) ≤ floats → 6 * length (list_of corners ends t) ≤ wholes
+      → layer_roomed corners ends t.rule t.g t.upward floats wholes fits ≡ unless ROOM fits
+  unfolding layer_roomed
+  own_enough floats wholes fits f w = rw (le-ltb floats (4 * length (list_of corners ends t)) f, le-ltb wholes (6 * length (list_of corners ends t)) w) (room_told fits)
+
   module _ (p : Passed corners ends t) {e places : ℕ} {table : List Float} (s : Standing corners ends t.g.cosine t.g.sine e table places) where
     own_edges : edges_in e table ≡ edges t.g (rings corners ends)
     own_edges = s.edges ∙ table_edges corners ends t.g

@@ -1,16 +1,16 @@
 -- What the stages found is all that the call leaves. Assumes nothing.
-use Rattle.std.specs.Prelude.{ℕ, ◌≤◌, ◌≡◌, Bool, List, length, replicate, Float, Result, Err}
+use Rattle.std.specs.Prelude.{ℕ, ◌*◌, ◌≤◌, ◌≡◌, refl, Bool, true, false, not, ◌||◌, cond, List, ltb, length, replicate, Float, Result, Err}
 use Rattle.std.proofs.Common.{arith, ◌∙◌, ne_eqb}
 use Rattle.std.proofs.Math.Path.{sym, ap}
 use Rattle.std.proofs.lemmas.List.{length-replicate}
 use Rattle.refusal.specs.declared.Refusal.{Refusal}
-use Rattle.refusal.specs.Refusal.{number, DONE, WORK, ◌then◌}
+use Rattle.refusal.specs.Refusal.{number, DONE, WORK, ROOM, ◌then◌}
 use Rattle.numbers.specs.Num.{zero64}
 use Rattle.geom.specs.Outline.{rings}
 use Rattle.geom.specs.Sewing.{flat}
 use Rattle.outlines.specs.declared.rule.FillRule.{FillRule}
 use Rattle.rules.specs.declared.Settings.{Settings}
-use Rattle.rules.specs.Fill.{tatami, gate}
+use Rattle.rules.specs.Fill.{row_list, tatami, gate}
 use Rattle.rules.specs.Calls.{worked, sewn_points, sewn_ends, sewn_fits}
 use Rattle.rules.specs.CallLaws.{gate_through}
 use Rattle.rules.specs.Accepted.{Accepted}
@@ -18,7 +18,7 @@ use Rattle.finding.specs.Stages.{Zeroed}
 use Rattle.tatami.specs.declared.Filled.{Filled as Sewn}
 use Rattle.tatami.specs.Left.{Filled, said_filled, Left, left, left_by}
 use Rattle.finding.specs.declared.find.Found.{Found}
-use Rattle.tatami.specs.Stages.{told}
+use Rattle.tatami.specs.Stages.{told as told_found}
 use Rattle.tatami.specs.RoomLaws.{counted_none, output_none, worked_none}
 use Rattle.tatami.specs.Outcomes.{stopped, left_lent}
 use Rattle.layers.specs.declared.Layer.{Layer}
@@ -51,6 +51,19 @@ left_none n corners ends rule g stagger upward points floats stops wholes h k =
     let zw = sym (worked_none h 0 wholes k) in
     λ i. left (record { answer = n; sections = sections i; points = many i }) (p i) (q i) (zf i) (zw i)
 
+-- WORK, ROOM and DONE leave zeros
+worked_zero : (corners : List Float) (ends : List ℕ) (rule : FillRule) (g : Settings) (upward : Bool) (floats wholes : ℕ) (fits : Bool) {A : Type 0} (z : A) (l : List A)
+    → worked (layer_roomed corners ends rule g upward floats wholes fits) z l ≡ replicate (length l) z
+unfolding layer_roomed
+worked_zero corners ends rule g upward floats wholes fits z l =
+    let i = length (row_list (rings corners ends) rule g upward) in
+    go (ltb floats (4 * i) || ltb wholes (6 * i)) fits
+  where
+    go : (a b : Bool) → worked (cond a WORK (cond (not b) ROOM DONE)) z l ≡ replicate (length l) z
+    go true b = refl
+    go false true = refl
+    go false false = refl
+
 module _ (corners : List Float) (ends : List ℕ) (rule : FillRule) (g : Settings) (stagger : ℕ) (upward : Bool) (points floats : List Float) (stops wholes : List ℕ) where
   -- ---- the table is refused
   pub layer_given : (n : ℕ) → 1 ≤ n → n ≤ 5 → left (nothing n) points stops floats wholes ≡ layer_left n corners ends rule g stagger upward points stops floats wholes
@@ -81,8 +94,8 @@ module _ (corners : List Float) (ends : List ℕ) (rule : FillRule) (g : Setting
     pub layer_done : (floats' : List Float) (wholes' : List ℕ) (found : Result Found Refusal) {l : Left} → Accepted corners ends g stagger → length floats' ≡ length floats → length wholes' ≡ length wholes
         → let ss = tatami (rings corners ends) rule g stagger upward in
         let fits = sewn_fits ss (length points) (length stops) in
-        told found fits ≡ layer_roomed corners ends rule g upward (length floats) (length wholes) fits
-        → l ≡ left_by (told found fits) ss points stops floats' wholes'
+        told_found found fits ≡ layer_roomed corners ends rule g upward (length floats) (length wholes) fits
+        → l ≡ left_by (told_found found fits) ss points stops floats' wholes'
         → l ≡ layer_left DONE corners ends rule g stagger upward points stops floats wholes
     unfolding layer_left layer_refusal
     layer_done floats' wholes' found ok f w n h =
@@ -94,18 +107,18 @@ module _ (corners : List Float) (ends : List ℕ) (rule : FillRule) (g : Setting
 -- ---- both
 
 module _ (corners : List Float) (ends : List ℕ) (rule : FillRule) (cosine sine : Float) (first second : Layer) (a b : Slices) (table : List Float) (places : List ℕ) where
-  both_told : {n : ℕ} → table_refusal corners ends cosine sine (length table) (length places) ≡ n → {t : Left} {u : Left} {table' : List Float} {places' : List ℕ}
+  told : {n : ℕ} → table_refusal corners ends cosine sine (length table) (length places) ≡ n → {t : Left} {u : Left} {table' : List Float} {places' : List ℕ}
       → t ≡ layer_left n corners ends rule (settings_of first cosine sine) first.stagger first.upward a.points a.stops a.floats a.wholes
       → u ≡ layer_left n corners ends rule (settings_of second cosine sine) second.stagger second.upward b.points b.stops b.floats b.wholes
       → table' ≡ worked n zero64 table → places' ≡ worked n 0 places
       → twice t u table' places' ≡ twice_left corners ends rule cosine sine first second a b table places
   unfolding twice_left
-  both_told e h k f w = (λ i. twice (h i) (k i) (f i) (w i)) ∙ ap (λ n. twice_by n corners ends rule cosine sine first second a b table places) (sym e)
+  told e h k f w = (λ i. twice (h i) (k i) (f i) (w i)) ∙ ap (λ n. twice_by n corners ends rule cosine sine first second a b table places) (sym e)
 
   pub twice_refused : (n : ℕ) → table_refusal corners ends cosine sine (length table) (length places) ≡ n → 1 ≤ n → n ≤ 5 → {table' : List Float} → table' ≡ table
       → twice (left (nothing n) a.points a.stops a.floats a.wholes) (left (nothing n) b.points b.stops b.floats b.wholes) table' places ≡ twice_left corners ends rule cosine sine first second a b table places
   twice_refused n e h k same =
-      both_told e
+      told e
       (layer_given corners ends rule (settings_of first cosine sine) first.stagger first.upward a.points a.floats a.stops a.wholes n h k)
       (layer_given corners ends rule (settings_of second cosine sine) second.stagger second.upward b.points b.floats b.stops b.wholes n h k)
       (same ∙ sym (worked_none h zero64 table k)) (sym (worked_none h 0 places k))
@@ -117,7 +130,7 @@ module _ (corners : List Float) (ends : List ℕ) (rule : FillRule) (cosine sine
         → Zeroed zero64 d₂ floats'' → length floats'' ≡ length b.floats → Zeroed 0 c₂ wholes'' → length wholes'' ≡ length b.wholes
         → twice (left (nothing WORK) a.points a.stops floats' wholes') (left (nothing WORK) b.points b.stops floats'' wholes'') table' places' ≡ twice_left corners ends rule cosine sine first second a b table places
     twice_short e p ep q eq r er s es =
-        both_told e
+        told e
         (layer_short corners ends rule (settings_of first cosine sine) first.stagger first.upward a.points a.floats a.stops a.wholes p ep q eq)
         (layer_short corners ends rule (settings_of second cosine sine) second.stagger second.upward b.points b.floats b.stops b.wholes r er s es)
         (zeroed zero64 table f ef) (zeroed 0 places w ew)
@@ -126,4 +139,4 @@ module _ (corners : List Float) (ends : List ℕ) (rule : FillRule) (cosine sine
         → t ≡ layer_left DONE corners ends rule (settings_of first cosine sine) first.stagger first.upward a.points a.stops a.floats a.wholes
         → u ≡ layer_left DONE corners ends rule (settings_of second cosine sine) second.stagger second.upward b.points b.stops b.floats b.wholes
         → twice t u table' places' ≡ twice_left corners ends rule cosine sine first second a b table places
-    twice_done e h k = both_told e h k (zeroed zero64 table f ef) (zeroed 0 places w ew)
+    twice_done e h k = told e h k (zeroed zero64 table f ef) (zeroed 0 places w ew)

@@ -12,7 +12,7 @@ use Rattle.seqs.specs.Slices.{Wrote, Put}
 use Rattle.seqs.specs.All.{all_at, all_append, all_map}
 use Rattle.seqs.specs.Reads.{read_on}
 use Rattle.seqs.specs.Upto.{upto_length}
-use Rattle.geom.specs.Outline.{rings}
+use Rattle.geom.specs.Outline.{rings, Layout}
 use Rattle.rules.specs.declared.Piece.{Piece}
 use Rattle.rules.specs.declared.Entry.{Entry}
 use Rattle.rules.specs.Fill.{edges, row_numbers, pieces_of, met, begun, entries, row_list}
@@ -37,7 +37,7 @@ use Rattle.sewing.specs.LinkedLaws.{entries_kept, numbers_are, put_kept, linked}
 use Rattle.finding.specs.declared.Plan.{Plan}
 use Rattle.finding.specs.Stages.{Passed, alone}
 use Rattle.tatami.specs.Stages.{Lent, field_of, Sectioned, list_of, rows_in}
-use Rattle.finding.specs.FindLaws.{spans_rows}
+use Rattle.finding.specs.FindLaws.{spans_rows, outlined}
 
 -- ---- lists
 
@@ -147,6 +147,9 @@ module _ (corners : List Float) (ends : List ℕ) (t : Plan) where
     -- the rows that are lent rise
     pub lent_rise : All Rise (rowsLent pieces numbers n 0 0 t.rows.n)
     lent_rise = subst (λ c. All Rise (rowsLent pieces numbers n 0 0 c)) (rows_count k.passed) (laid_rise k.laid (alone_rise k.passed))
+
+    pub layout : Layout corners ends
+    layout = (outlined corners ends t k.passed).layout
 
     pub few_pieces : n ≤ 10000000
     few_pieces = omega (arith, k.laid.count, list_count, pieces_bounded corners ends t.g t.stagger k.passed.accepted t.rule t.upward)

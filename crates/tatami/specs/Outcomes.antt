@@ -2,6 +2,7 @@
 use Rattle.std.specs.Prelude.{ℕ, zero, suc, ◌≤◌, ◌≡◌, Bool, List, ◌++◌, ℤ, length, drop, replicate, Float, Result, Err}
 use Rattle.std.proofs.Common.{arith, ◌∙◌}
 use Rattle.std.proofs.Math.Path.{sym, ap}
+use Rattle.std.proofs.lemmas.List.{length-replicate}
 use Rattle.refusal.specs.Refusal.{DONE, number}
 use Rattle.refusal.specs.Sewn.{output}
 use Rattle.numbers.specs.Num.{zero64}
@@ -19,12 +20,17 @@ use Rattle.refusal.specs.declared.Refusal.{Refusal}
 use Rattle.tatami.specs.Left.{Filled, Listed, said_filled, said_listed, Left, LeftList, filled, listed, left, left_by, left_list, left_list_by, tatami_left, row_list_left}
 use Rattle.finding.specs.declared.find.Found.{Found}
 use Rattle.tatami.specs.declared.Filled.{Filled as Sewn}
+use Rattle.finding.specs.Stages.{Zeroed}
 use Rattle.tatami.specs.Stages.{Sewed, Noted, told}
 use Rattle.tatami.specs.RoomLaws.{counted_none, output_none, worked_none, worked_told}
 
 -- what is put to the front, said otherwise
 pub front_is : {A : Type 0} (m m' d : List A) (k : ℕ) {x : List A} → m ≡ m' → length m ≡ k → x ≡ m ++ drop k d → x ≡ m' ++ drop (length m') d
 front_is m m' d k e l h = h ∙ ap (λ j. m ++ drop j d) (sym l) ∙ ap (λ y. y ++ drop (length y) d) e
+
+-- a slice of zeros, by its length
+pub zeroed : {A : Type 0} (z : A) {d d' : List A} (l : List A) → Zeroed z d d' → length d' ≡ length l → d' ≡ replicate (length l) z
+zeroed z {d} l e h = e.is ∙ ap (λ n. replicate n z) (sym (length-replicate (length d) z) ∙ ap length (sym e.is) ∙ h)
 
 -- what was found is all that a stage leaves, whatever stands in the working slices
 module _ (found : Result Found Refusal) (fits : Bool) where
@@ -69,6 +75,15 @@ module _ (corners : List Float) (ends : List ℕ) (g : Settings) (stagger : ℕ)
         let zw = sym (worked_none h.1 0 wholes h.2) in
         (λ i. left (record { answer = n; sections = sections i; points = many i }) (p i) (q i) (zf i) (zw i)) ∙ ap (λ n. left_by n ss points stops floats wholes) (sym (stopped n rest h.0 h.1))
 
+    pub left_through : {points' d floats' : List Float} {stops' e wholes' : List ℕ} {r : Filled} (n : ℕ) → Accepted corners ends g stagger → Sewed n ss points points' stops stops' r
+        → Zeroed zero64 d floats' → length floats' ≡ length floats → worked n zero64 floats ≡ replicate (length floats) zero64
+        → Zeroed 0 e wholes' → length wholes' ≡ length wholes → worked n 0 wholes ≡ replicate (length wholes) 0
+        → left r points' stops' floats' wholes' ≡ left_by (gate corners ends g stagger n) ss points stops floats wholes
+    left_through n ok h f ef of w ew ow =
+        let zf = zeroed zero64 floats f ef ∙ sym of in
+        let zw = zeroed 0 wholes w ew ∙ sym ow in
+        (λ i. left (h.0 i) (h.1 i) (h.2 i) (zf i) (zw i)) ∙ ap (λ n. left_by n ss points stops floats wholes) (sym (gate_through corners ends g stagger n ok))
+
   module _ (es : List Entry) (ys floats : List Float) (rows : List ℤ) (sections wholes : List ℕ) where
     pub list_stopped : (n rest : ℕ) → (gate corners ends g stagger DONE ≡ n) × (1 ≤ n) × (n ≤ 5)
         → left_list (record { answer = n; pieces = 0 }) ys rows sections floats wholes ≡ left_list_by (gate corners ends g stagger rest) es ys rows sections floats wholes
@@ -80,6 +95,15 @@ module _ (corners : List Float) (ends : List ℕ) (g : Settings) (stagger : ℕ)
         let zf = sym (worked_none h.1 zero64 floats h.2) in
         let zw = sym (worked_none h.1 0 wholes h.2) in
         (λ i. left_list (record { answer = n; pieces = many i }) (p i) (q i) (u i) (zf i) (zw i)) ∙ ap (λ n. left_list_by n es ys rows sections floats wholes) (sym (stopped n rest h.0 h.1))
+
+    pub list_through : {ys' d floats' : List Float} {rows' : List ℤ} {sections' e wholes' : List ℕ} {r : Listed} (n : ℕ) → Accepted corners ends g stagger → Noted n es ys ys' rows rows' sections sections' r
+        → Zeroed zero64 d floats' → length floats' ≡ length floats → worked n zero64 floats ≡ replicate (length floats) zero64
+        → Zeroed 0 e wholes' → length wholes' ≡ length wholes → worked n 0 wholes ≡ replicate (length wholes) 0
+        → left_list r ys' rows' sections' floats' wholes' ≡ left_list_by (gate corners ends g stagger n) es ys rows sections floats wholes
+    list_through n ok h f ef of w ew ow =
+        let zf = zeroed zero64 floats f ef ∙ sym of in
+        let zw = zeroed 0 wholes w ew ∙ sym ow in
+        (λ i. left_list (h.0 i) (h.1 i) (h.2 i) (h.3 i) (zf i) (zw i)) ∙ ap (λ n. left_list_by n es ys rows sections floats wholes) (sym (gate_through corners ends g stagger n ok))
 
 module _ (corners : List Float) (ends : List ℕ) (rule : FillRule) (g : Settings) (stagger : ℕ) (upward : Bool) where
   module _ (points floats : List Float) (stops wholes : List ℕ) where

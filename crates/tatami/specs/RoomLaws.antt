@@ -1,20 +1,22 @@
 -- What each number of document 01 leaves, and which number a stage's findings give. Assumes nothing.
-use Rattle.std.specs.Prelude.{ℕ, ◌*◌, ◌/◌, ◌≤◌, ◌<◌, ◌≡◌, refl, Bool, true, false, ◌&&◌, List, map, leb, replicate, ℤ, Float, Result, Ok, Err, Some, None}
+use Rattle.std.specs.Prelude.{ℕ, ◌*◌, ◌/◌, ◌≤◌, ◌<◌, ◌≡◌, refl, Bool, true, false, not, ◌&&◌, ◌||◌, cond, List, map, ltb, leb, replicate, ℤ, Float, Result, Ok, Err, Some, None}
 use Rattle.std.proofs.Common.{arith, sym, ap, ◌∙◌, subst, length-drop}
 use Rattle.std.proofs.Math.Bool.{and-false}
 use Rattle.std.proofs.Math.ListN.{length}
 use Rattle.std.proofs.lemmas.List.{length-map}
 use borrow.Author.Tests.{le-ltb, le-leb, lt-leb, leb-true, ne_eqb}
-use Rattle.refusal.specs.Refusal.{DONE, ROOM}
+use Rattle.refusal.specs.Refusal.{DONE, WORK, ROOM}
 use Rattle.refusal.specs.Sewn.{output}
 use Rattle.seqs.specs.Lists.{upto}
 use Rattle.sewing.specs.Within.{within, within_some, within_none}
 use Rattle.seqs.specs.Tests.{and_both}
 use Rattle.seqs.specs.Upto.{upto_length}
 use Rattle.geom.specs.declared.point.P.{P}
+use Rattle.outlines.specs.declared.rule.FillRule.{FillRule}
 use Rattle.geom.specs.Outline.{rings}
+use Rattle.rules.specs.declared.Settings.{Settings}
 use Rattle.rules.specs.declared.Entry.{Entry}
-use Rattle.rules.specs.Fill.{edges, section, sewn, need_floats, need_wholes, roomed}
+use Rattle.rules.specs.Fill.{edges, section, row_list, sewn, need_floats, need_wholes, roomed}
 use Rattle.rules.specs.Calls.{counted, worked, sewn_points, list_fits}
 use Rattle.rules.specs.CallLaws.{room_told}
 use Rattle.sewing.specs.declared.Field.{Field}
@@ -136,3 +138,16 @@ pub worked_told : (found : Result Found Refusal) (fits : Bool) {A : Type 0} (z :
 worked_told (Err e) fits z l = refl
 worked_told (Ok f) true z l = refl
 worked_told (Ok f) false z l = refl
+
+pub worked_late : (short fits : Bool) {A : Type 0} (z : A) (l : List A) → worked (cond short WORK (cond (not fits) ROOM DONE)) z l ≡ replicate (length l) z
+worked_late true fits z l = refl
+worked_late false true z l = refl
+worked_late false false z l = refl
+
+pub worked_zero : (corners : List Float) (ends : List ℕ) (rule : FillRule) (g : Settings) (upward : Bool) (floats wholes : ℕ) (fits : Bool) {A : Type 0} (z : A) (l : List A)
+    → worked (roomed corners ends rule g upward floats wholes fits) z l ≡ replicate (length l) z
+unfolding roomed
+worked_zero corners ends rule g upward floats wholes fits z l =
+    let e = length (edges g (rings corners ends)) in
+    let i = length (row_list (rings corners ends) rule g upward) in
+    worked_late (ltb floats (need_floats e i) || ltb wholes (need_wholes e i)) fits z l
