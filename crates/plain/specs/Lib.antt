@@ -3,3 +3,5 @@ pub mod Plain
 pub mod PlainLaws
 pub mod Engines
 pub mod Examples
+pub mod Found
+pub mod WorkLaws

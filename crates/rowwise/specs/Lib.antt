@@ -2,6 +2,7 @@
 pub mod Nearest
 pub mod NearestLaws
 pub mod Rows
+pub mod Step
 pub mod Pieces
 pub mod RowLaws
 pub mod Examples

@@ -51,7 +51,9 @@ use Rattle.finding.specs.declared.Plan.{Plan}
 use Rattle.finding.specs.Stages.{Passed, alone}
 use Rattle.rowwise.specs.Nearest.{none_yet, meet, behind, sides_behind, Inner, Clear, left_after, row_cuts}
 use Rattle.rowwise.specs.NearestLaws.{gathered_all, nearest_none, nearest_next, nearest_fewer}
-use Rattle.rowwise.specs.Rows.{place, Putting, Laid, plain_floats, plain_wholes, plain_short, Holds}
+use Rattle.rowwise.specs.Step.{Step, Stepped}
+use Rattle.rowwise.specs.Step.Step.{Found, End}
+use Rattle.rowwise.specs.Rows.{Next, place, Putting, Laid, plain_floats, plain_wholes, plain_short, Holds}
 
 -- ---- a scan of a row
 
@@ -75,6 +77,14 @@ module _ (c : Cut) (es : List Edge) (clear : Clear c.y es) (s : Scan) (last : Fl
   pub scan_none : x.next ≡ s.at → left_after c es s last ≡ []
   unfolding left_after
   scan_none e = rw (nearest_none (record { y = c.y; after = last; at = s.at }) es clear is e) (cuts_none c s.w s.start)
+
+-- what a step says, once it is known which
+module _ (c : Cut) (es : List Edge) (s : Scan) (after : Float) where
+  pub step_end : {r : Step} → r ≡ End → Stepped c es s after r → left_after c es s after ≡ []
+  step_end e f = rw e at f
+
+  pub step_found : {r : Step} {p : Span} {t : Scan} {x : Float} → r ≡ Found p t x → Stepped c es s after r → Next c es s after p t x
+  step_found e f = rw e at f
 
 spans_few : (rule : FillRule) (w : ℤ) (start : Float) (l : List (Float × ℤ)) → length (spans rule w start l) ≤ length l
 unfolding spans

@@ -4,3 +4,5 @@ pub mod Stages
 pub mod EntryLaws
 pub mod RoomLaws
 pub mod Outcomes
+pub mod Found
+pub mod WorkLaws
