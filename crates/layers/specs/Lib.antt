@@ -5,3 +5,5 @@ pub mod LayerLaws
 pub mod Outcomes
 pub mod Alone
 pub mod Examples
+pub mod Table
+pub mod TableLaws

@@ -5,3 +5,4 @@ pub mod Engines
 pub mod Examples
 pub mod Found
 pub mod WorkLaws
+pub mod WayLaws

@@ -42,6 +42,6 @@ module _ (corners : List Float) (ends : List ℕ) (t : Plan) {d : List Float} {a
 
 module _ (corners : List Float) (ends : List ℕ) (rule : FillRule) (g : Settings) (stagger : ℕ) (upward : Bool) where
   -- WORK, ROOM and DONE leave zeros
-  worked_plain : (floats wholes : ℕ) (fits : Bool) {A : Type 0} (z : A) (l : List A) → worked (plain_roomed corners ends rule g upward floats wholes fits) z l ≡ replicate (length l) z
+  pub worked_plain : (floats wholes : ℕ) (fits : Bool) {A : Type 0} (z : A) (l : List A) → worked (plain_roomed corners ends rule g upward floats wholes fits) z l ≡ replicate (length l) z
   unfolding plain_roomed
   worked_plain floats wholes fits z l = let i = length (row_list (rings corners ends) rule g upward) in worked_late (ltb floats (plain_floats i) || ltb wholes (plain_wholes i)) fits z l

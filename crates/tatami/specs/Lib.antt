@@ -6,3 +6,6 @@ pub mod RoomLaws
 pub mod Outcomes
 pub mod Found
 pub mod WorkLaws
+pub mod Way
+pub mod WayLaws
+pub mod CappedLaws
