@@ -7,3 +7,4 @@ pub mod Alone
 pub mod Examples
 pub mod Table
 pub mod TableLaws
+pub mod WayLaws

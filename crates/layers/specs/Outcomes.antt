@@ -39,7 +39,7 @@ abbrev pub nothing : ℕ → Filled
 nothing n = record { answer = n; sections = 0; points = 0 }
 
 -- a refusal of 1 to 5 leaves every slice
-left_none : (n : ℕ) (corners : List Float) (ends : List ℕ) (rule : FillRule) (g : Settings) (stagger : ℕ) (upward : Bool) (points floats : List Float) (stops wholes : List ℕ) → 1 ≤ n → n ≤ 5
+pub left_none : (n : ℕ) (corners : List Float) (ends : List ℕ) (rule : FillRule) (g : Settings) (stagger : ℕ) (upward : Bool) (points floats : List Float) (stops wholes : List ℕ) → 1 ≤ n → n ≤ 5
     → left (nothing n) points stops floats wholes ≡ left_by n (tatami (rings corners ends) rule g stagger upward) points stops floats wholes
 left_none n corners ends rule g stagger upward points floats stops wholes h k =
     let ss = tatami (rings corners ends) rule g stagger upward in
@@ -52,7 +52,7 @@ left_none n corners ends rule g stagger upward points floats stops wholes h k =
     λ i. left (record { answer = n; sections = sections i; points = many i }) (p i) (q i) (zf i) (zw i)
 
 -- WORK, ROOM and DONE leave zeros
-worked_zero : (corners : List Float) (ends : List ℕ) (rule : FillRule) (g : Settings) (upward : Bool) (floats wholes : ℕ) (fits : Bool) {A : Type 0} (z : A) (l : List A)
+pub worked_zero : (corners : List Float) (ends : List ℕ) (rule : FillRule) (g : Settings) (upward : Bool) (floats wholes : ℕ) (fits : Bool) {A : Type 0} (z : A) (l : List A)
     → worked (layer_roomed corners ends rule g upward floats wholes fits) z l ≡ replicate (length l) z
 unfolding layer_roomed
 worked_zero corners ends rule g upward floats wholes fits z l =
