@@ -13,8 +13,9 @@ use Rattle.jobs.specs.Parsed.{Parsed}
 use Rattle.jobs.specs.Parsed2.{Parsed2}
 use Rattle.jobs.specs.Job.{corners as Job·corners, ends as Job·ends, left as Job·left}
 use Rattle.jobs.specs.Job2.{corners2, ends2, left2}
+use Rattle.salvage.specs.Salvage.{Outcome as SalvageOutcome}
 use Rattle.desk.specs.Listing.{printed}
-use Rattle.claims.specs.Told.{order_one, number_said, filled_one, listed_one, room_one, floats_one, underlaid_one, lines_one, parsed_one, parsed2_one, read_one, salvaged_one, fetched_one}
+use Rattle.claims.specs.Told.{order_one, number_said, filled_one, listed_one, room_one, bounds_one, floats_one, underlaid_one, lines_one, parsed_one, parsed2_one, read_one, salvaged_one, fetched_one}
 use Rattle.leaves.proofs.checked.root
 use Rattle.leaves.proofs.checked.floor
 use Rattle.leaves.proofs.checked.ceil
@@ -241,13 +242,13 @@ pub column_room_outcome : One column_room_contract.ended column_room.Reads.Learn
 column_room_outcome κs a x y h k = both (floats_one _ _ (one h k)) refl
 
 pub bounds_outcome : One bounds_contract.ended bounds.Reads.Learnt
-bounds_outcome κs a x y h k = both (said_one _ _ (one h k)) refl
+bounds_outcome κs a x y h k = both (bounds_one _ _ (one h k)) refl
 
 pub clip_inside_outcome : One clip_inside_contract.ended clip_inside.Reads.Learnt
 clip_inside_outcome κs a x y h k = both (lines_one _ _ (one h.0 k.0)) (λ i. (tt, (tt, (tt, (tt, (one h.1 k.1 i, (one h.2 k.2 i, tt)))))))
 
 pub cross_stitch_outcome : One cross_stitch_contract.ended cross_stitch.Reads.Learnt
-cross_stitch_outcome κs a x y h k = both (said_sewn_one _ _ (lines_one _ _ (one h.0 k.0))) (λ i. (tt, (tt, (tt, (tt, (one h.1 k.1 i, (one h.2 k.2 i, tt)))))))
+cross_stitch_outcome κs a x y h k = both (lines_one _ _ (one h.0 k.0)) (λ i. (tt, (tt, (tt, (tt, (one h.1 k.1 i, (one h.2 k.2 i, tt)))))))
 
 pub meander_outcome : One meander_contract.ended meander.Reads.Learnt
 meander_outcome κs a x y h k = both (lines_one _ _ (one h.0 k.0)) (λ i. (tt, (tt, (tt, (tt, (tt, (tt, (one h.1 k.1 i, (one h.2 k.2 i, (one h.3 k.3 i, tt))))))))))
@@ -327,7 +328,7 @@ dst_read_outcome κs a x y h k = both (read_one _ _ (one h.0 k.0)) (λ i. (tt, (
 -- ---- broken outlines
 
 pub salvage_outcome_lem : One salvage_contract.ended salvage.Reads.Learnt
-salvage_outcome_lem κs a x y h k = let s = one h k in λ i. ((s i).said, (tt, (tt, ((s i).corners, ((s i).ends, ((s i).places, ((s i).reasons, tt)))))))
+salvage_outcome_lem κs a x y h k = let s = one h k in both (salvaged_one _ _ (ap (λ (o : SalvageOutcome). o.said) s)) (λ i. (tt, (tt, ((s i).corners, ((s i).ends, ((s i).places, ((s i).reasons, tt)))))))
 
 -- ---- the sheet book
 

@@ -14,6 +14,8 @@ use Rattle.fillroom.specs.Room.{Room, said_room}
 use Rattle.satinroom.specs.Room as satin
 use Rattle.halves.specs.declared.Underlaid.{Underlaid as Laid}
 use Rattle.halves.specs.Answers.{Underlaid, said_underlaid}
+use Rattle.patterns_rules.specs.declared.Bounds.{Bounds}
+use Rattle.patterns.specs.Said.{said_box, box_of}
 use Rattle.patterns_rules.specs.declared.Count.{Count}
 use Rattle.patterns_rules.specs.Answers.{Lines, said_count}
 use Rattle.jobs.specs.declared.job.Job.{Job}
@@ -76,6 +78,12 @@ room_one (Err f) (Ok b) e = absurd (number_some f (ap (λ (x : Room). x.answer) 
 room_one (Err f) (Err g) e = ap Err (number_one f g (ap (λ (x : Room). x.answer) e))
 
 -- ---- satin and patterns
+
+pub bounds_one : (r s : Result Bounds Refusal) → said_box (box_of r) ≡ said_box (box_of s) → r ≡ s
+bounds_one (Ok v) (Ok w) e = ap Ok (done_one e)
+bounds_one (Ok v) (Err f) e = absurd (done_refused e)
+bounds_one (Err f) (Ok w) e = absurd (refused_done e)
+bounds_one (Err f) (Err g) e = ap Err (number_one f g (refused_one Bounds e))
 
 pub floats_one : (r s : Result ℕ Refusal) → satin.said_room r ≡ satin.said_room s → r ≡ s
 floats_one (Ok a) (Ok b) e = λ i. Ok (e i).floats
