@@ -25,11 +25,11 @@ extern "C" {
 #define BEAHCEROT_ROOM 7
 #define BEAHCEROT_RECORD 8
 #define BEAHCEROT_CUT 9
+#define BEAHCEROT_ABSENT 10
+#define BEAHCEROT_VERSION 11
 #define BEAHCEROT_STITCH 0
 #define BEAHCEROT_JUMP 1
 #define BEAHCEROT_STOP 2
-#define BEAHCEROT_ABSENT 10
-#define BEAHCEROT_VERSION 11
 
 uint64_t beahcerot_polyline_length(const double *line, size_t line_len, double *value);
 
