@@ -38,5 +38,6 @@ returns c =
     let f = c.fill2-r.ensures in
     let a = listing_is (lent_left2 s).first f.seen.0 f.seen.1 f.seen.2 in
     let b = listing_is (lent_left2 s).second f.seen_2.0 f.seen_2.1 f.seen_2.2 in
-    let told = lines_behind (listing_of (lent_left2 s).first) (listing_of (lent_left2 s).second) c.args.out.now a b (rw (c.told-a.ensures.0, c.told-a.ensures.1, c.told-a.ensures.2) at c.listing-k.ensures.out_after) (rw (c.told-a.ensures.0, c.told-a.ensures.1, c.told-a.ensures.2) at c.listing-k.ensures.value.0) (rw (c.told-b.ensures.0, c.told-b.ensures.1, c.told-b.ensures.2) at c.listing-m.ensures.out_after) ((rw (c.told-b.ensures.0, c.told-b.ensures.1) at c.listing-m.ensures.value.0) ∙ ap (λ (m : ℕ). length (Text·listing (said_filled c.fill2-r.result.second).answer (said_filled c.fill2-r.result.second).sections m c.fill2-r.new.points2 c.fill2-r.new.stops2)) c.told-b.ensures.2) in
+    let many = (rw (c.told-b.ensures.0, c.told-b.ensures.1) at c.listing-m.ensures.value.0) ∙ ap (λ (m : ℕ). length (Text·listing (said_filled c.fill2-r.result.second).answer (said_filled c.fill2-r.result.second).sections m c.fill2-r.new.points2 c.fill2-r.new.stops2)) c.told-b.ensures.2 in
+    let told = lines_behind (listing_of (lent_left2 s).first) (listing_of (lent_left2 s).second) c.args.out.now a b (rw (c.told-a.ensures.0, c.told-a.ensures.1, c.told-a.ensures.2) at c.listing-k.ensures.out_after) (rw (c.told-a.ensures.0, c.told-a.ensures.1, c.told-a.ensures.2) at c.listing-k.ensures.value.0) (rw (c.told-b.ensures.0, c.told-b.ensures.1, c.told-b.ensures.2) at c.listing-m.ensures.out_after) many in
     record { out_after = told.0; value = told.1 }
