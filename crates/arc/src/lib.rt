@@ -36,7 +36,18 @@ fn partition_point(cum: &[f64], s: f64) -> usize
     requires { Rising cum.now }
     ensures { (result ≡ partition_point s cum.now) × (result ≤ length cum.now) }
 {
-    cum.partition_point(|c| *c <= s)
+    // kept (3): rule: document 01: closures become named functions, and a bisection by the library wants a closure
+    let mut lo = 0;
+    let mut hi = cum.len();
+    while lo < hi {
+        let mid = lo + (hi - lo) / 2;
+        if cum[mid] <= s {
+            lo = mid + 1;
+        } else {
+            hi = mid;
+        }
+    }
+    lo
 }
 
 // f64::clamp asks lo ≤ hi, and nothing says so of a length that may be a NaN.

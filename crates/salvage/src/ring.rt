@@ -1,7 +1,7 @@
 // What is dropped of a ring, and why: a mark for each corner.
 ghost use Rattle.std.specs.Prelude.{◌≡◌, map, ◌*◌, length, None};
 ghost use Rattle.geom.specs.Outline.{points};
-ghost use Rattle.salvage.specs.Ring.{finite_point, same, repeats, stray, after, strays, closed, few, ring_marks};
+ghost use Rattle.salvage.specs.Ring.{kept, finite_point, same, repeats, stray, after, strays, closed, few, ring_marks};
 ghost use Rattle.salvage.specs.RingLaws.{first_kept, last_kept};
 
 use crate::writing::count_kept;
@@ -23,6 +23,12 @@ pub const REPEATED: usize = 3;
 pub const CLOSING: usize = 4;
 
 pub const FEW: usize = 5;
+
+pub fn is_kept(m: &usize) -> bool
+    ensures { result ≡ kept m.now }
+{
+    *m == KEPT
+}
 
 // kept (4): no plainer: P's own equality would be the floats', by which -0 is +0
 // Equal in bits: -0 and +0 are not.
@@ -86,14 +92,14 @@ fn mark_strays(ring: &[f64], marks: &mut [usize])
 fn first_kept(marks: &[usize]) -> usize
     ensures { result ≡ first_kept marks.now }
 {
-    marks.iter().position(|m| *m == KEPT).unwrap_or(marks.len())
+    marks.iter().position(is_kept).unwrap_or(marks.len())
 }
 
 // The place of the last that is kept; with none, 0.
 fn last_kept(marks: &[usize]) -> usize
     ensures { result ≡ last_kept 0 0 marks.now }
 {
-    marks.iter().rposition(|m| *m == KEPT).unwrap_or(0)
+    marks.iter().rposition(is_kept).unwrap_or(0)
 }
 
 // Of two or more left, a last corner equal to the first.

@@ -7,13 +7,13 @@ ghost use Rattle.salvage.specs.Ring.{kept, left};
 ghost use Rattle.salvage.specs.Salvage.{dropped_places, dropped_reasons};
 ghost use Rattle.salvage.specs.OutlineLaws.{counted_ends};
 
-use crate::ring::KEPT;
+use crate::ring::{KEPT, is_kept};
 use geom::sewing::{corner, put_point};
 
 pub fn count_kept(marks: &[usize]) -> usize
     ensures { result ≡ length (sift kept marks.now) }
 {
-    marks.iter().filter(|m| **m == KEPT).count()
+    marks.iter().copied().filter(is_kept).count()
 }
 
 pub fn put_corners(corners: &[f64], marks: &[usize], out: &mut [f64])

@@ -122,11 +122,12 @@ fn link_inside(area: Area, g: Settings, link: Link, k: u64) -> bool
 }
 
 // Three points of the link are inside.
+#[tactic(auto, unfolding(rules::specs::Fill::connects))]
 fn connects(area: Area, g: Settings, o: Entry, next: Piece) -> bool
     ensures { result ≡ connects (rings_of area.entry.outline) area.entry.rule g o next }
 {
     let link = link_ends(o, next);
-    (1..4).all(|k| link_inside(area, g, link, k))
+    link_inside(area, g, link, 1) && link_inside(area, g, link, 2) && link_inside(area, g, link, 3)
 }
 
 // What all rows of a fill share.
@@ -208,7 +209,12 @@ fn row_end(wholes: &[usize], n: usize, i: usize, r: usize) -> usize
     requires { (i ≤ n) × (n ≤ length wholes.now) }
     ensures { (result ≡ row_end wholes.now n i r) × (i ≤ result) × (result ≤ n) }
 {
-    i + wholes[i..n].iter().take_while(|row| **row == r).count()
+    for (k, row) in wholes[i..n].iter().enumerate() {
+        if *row != r {
+            return i + k;
+        }
+    }
+    n
 }
 
 // The marks of all pieces, row by row.

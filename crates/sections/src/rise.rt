@@ -14,8 +14,18 @@ fn first_past(pieces: &[f64], from: usize, to: usize, x: f64) -> usize
     requires { Rising pieces.now from to × (from ≤ to) × (3 * to ≤ length pieces.now) }
     ensures { Between pieces.now x from to result result }
 {
-    let (blocks, _) = pieces[3 * from..3 * to].as_chunks::<3>();
-    from + blocks.partition_point(|piece| !(x < piece[2]))
+    // kept (3): rule: document 01: closures become named functions, and a bisection by the library wants a closure
+    let mut lo = from;
+    let mut hi = to;
+    while lo < hi {
+        let mid = lo + (hi - lo) / 2;
+        if x < pieces[3 * mid + 2] {
+            hi = mid;
+        } else {
+            lo = mid + 1;
+        }
+    }
+    lo
 }
 
 // The only place from b0 on, before r0, whose piece p overlaps.

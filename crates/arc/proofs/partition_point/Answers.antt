@@ -1,16 +1,22 @@
--- Rising lengths are partitioned by what is at most s. Assumes nothing.
+-- All below lo are at most s, and the one at hi is not. Assumes nothing.
+use Rattle.std.specs.Prelude.{◌+◌, ◌-◌, ◌/◌, ◌≡◌}
 use Rattle.std.proofs.Common.{rules, arith, sym}
-use Rattle.std.proofs.lemmas.List.{get_or_default}
-use Rattle.std.proofs.lemmas.List.Sorted.{IsPartitionPoint-from_clause}
-use Rattle.std.specs.Float.{nan}
-use Rattle.std.specs.Float.Ieee.{le}
 use Rattle.arc.specs.RailLaws.{partition_at}
 use Rattle.arc.proofs.partition_point.Goals as goal
 
+pub loop-lo-init : goal.loop-lo-init
+loop-lo-init c = (search rules, search rules, (λ k h. absurd (omega arith)), (λ h. absurd (omega arith)))
+
+pub loop-lo-preserved-then-cum-mid : goal.loop-lo-preserved-then-cum-mid
+loop-lo-preserved-then-cum-mid c =
+    let l = c.loop-lo in
+    (search rules, search rules, (λ k h. c.requires.rises k (l.lo + (l.hi - l.lo) / 2) c.args.s (omega arith) (omega arith) c.if-cum-mid.true), l.invariant.3)
+
+pub loop-lo-preserved : goal.loop-lo-preserved
+loop-lo-preserved c = (search rules, search rules, c.loop-lo.invariant.2, (λ h. c.if-cum-mid.false))
+
 pub returns : goal.returns
 returns c =
-    let cum = c.args.cum.now in
-    let f = c.partition_point.ensures in
-    let at = λ (d : _) (i : _) (h : _). get_or_default cum i d nan h in
-    let p = IsPartitionPoint-from_clause (λ x. le x c.args.s) cum _ f.partitioned (λ i j d h k e. rw (at d i (omega arith)) (c.requires.rises i j c.args.s h k (rw (at d j k) at e))) (λ a r f' k. search rules) in
-    (sym (partition_at c.args.s cum _ f.bound (λ i h. p.0 i nan (omega arith) h) (λ h. p.1 _ nan (omega arith) h)), f.bound)
+    let l = c.loop-lo in
+    let e : l.lo ≡ l.hi = omega arith in
+    (sym (partition_at c.args.s c.args.cum.now l.lo (search rules) l.invariant.2 (rw e l.invariant.3)), search rules)

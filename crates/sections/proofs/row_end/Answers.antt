@@ -1,19 +1,36 @@
-use Rattle.std.proofs.Common.{rules, tests, ◌≡◌, ◌-◌, eqb, arith, length, take, drop, sym, ◌∙◌}
-use Rattle.std.specs.List.{prefix_len}
-use Rattle.std.proofs.lemmas.Iterator.{YieldsList-from_slice}
-use Rattle.std.proofs.lemmas.Iterator.Consumers.{count_from_yields_List}
-use Rattle.std.proofs.lemmas.Iterator.Search.{YieldsList-from_take_while}
-use Rattle.std.proofs.lemmas.List.Folds.{length-prefix_len}
-use Rattle.std.proofs.lemmas.List.Sums.{prefix_len-le-length}
-use Rattle.std.proofs.lemmas.List.{length-take-le, length-drop}
-use Rattle.sections.specs.RowEnds.{row_end_part}
+use Rattle.std.specs.Prelude.{ℕ, ◌≡◌, ◌+◌, ◌-◌, ◌≤◌, ◌<◌, List, length, get_or, take, drop}
+use Rattle.std.proofs.Common.{arith, sym, ◌∙◌, get_or-take, get_or-drop, length-take-le, length-drop}
+use Rattle.sections.specs.RowEnds.{row_more, row_stop, row_done}
 use Rattle.sections.proofs.row_end.Goals as goal
+
+-- the part of the slice that is looked through
+module _ (w : List ℕ) (n i : ℕ) (order : i ≤ n) (room : n ≤ length w) where
+  part_length : length (take (n - i) (drop i w)) ≡ n - i
+  part_length = length-take-le (n - i) (drop i w) (omega (arith, length-drop i w))
+
+  part_at : (k : ℕ) → i + k < n → get_or (take (n - i) (drop i w)) k 0 ≡ get_or w (i + k) 0
+  part_at k h = get_or-take (n - i) (drop i w) k 0 (omega arith) ∙ get_or-drop i w k 0
+
+pub returns-then-row-r : goal.returns-then-row-r
+returns-then-row-r c =
+    let a = c.args in
+    let l = c.loop-k in
+    let h : a.i + l.k < a.n = omega (arith, part_length a.wholes.now a.n a.i c.requires.0 c.requires.1, c.loop-k-test.true) in
+    let e = rw (part_at a.wholes.now a.n a.i c.requires.0 c.requires.1 l.k h) at c.if-row-r.true in
+    (sym (l.invariant ∙ row_stop a.wholes.now a.n (a.i + l.k) a.r c.requires.1 h e), omega arith, omega arith)
+
+pub loop-k-preserved : goal.loop-k-preserved
+loop-k-preserved c =
+    let a = c.args in
+    let l = c.loop-k in
+    let h : a.i + l.k < a.n = omega (arith, part_length a.wholes.now a.n a.i c.requires.0 c.requires.1, c.loop-k-test.true) in
+    let e = rw (part_at a.wholes.now a.n a.i c.requires.0 c.requires.1 l.k h) at c.if-row-r.false in
+    let s : a.i + (l.k + 1) ≡ a.i + l.k + 1 = omega arith in
+    rw s (l.invariant ∙ row_more a.wholes.now a.n (a.i + l.k) a.r c.requires.1 h e)
 
 pub returns : goal.returns
 returns c =
     let a = c.args in
-    let part = take (a.n - a.i) (drop a.i a.wholes.now) in
-    let k : c.count.result ≡ prefix_len (λ x. eqb x a.r) part =
-    count_from_yields_List c.take_while.result _ c.count.ensures.ran (YieldsList-from_take_while _ (λ x. eqb x a.r) (YieldsList-from_slice part (cc)) c.take_while.ensures.closure c.take_while.ensures.done (λ x b q k. search (rules, tests))) ∙ length-prefix_len (λ x. eqb x a.r) part in
-    let m : length part ≡ a.n - a.i = length-take-le (a.n - a.i) (drop a.i a.wholes.now) (omega (arith, length-drop a.i a.wholes.now)) in
-    (rw k (sym (row_end_part a.wholes.now a.n a.i a.r c.requires.0)), omega arith, omega (arith, k, m, prefix_len-le-length (λ x. eqb x a.r) part, c.requires.0))
+    let l = c.loop-k in
+    let h : a.i + l.k ≡ a.n = omega (arith, part_length a.wholes.now a.n a.i c.requires.0 c.requires.1, c.loop-k-test.false, l.auto.k-end) in
+    (sym (l.invariant ∙ row_done a.wholes.now a.n (a.i + l.k) a.r c.requires.1 (omega arith) ∙ h), c.requires.0, omega arith)

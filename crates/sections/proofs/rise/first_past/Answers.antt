@@ -1,13 +1,17 @@
--- The first block that reaches past x. Assumes nothing.
-use Rattle.std.proofs.Common.{rules}
-use Rattle.std.proofs.lemmas.List.Sorted.{IsPartitionPoint-from_clause}
-use Rattle.sections.proofs.Blocks.{part_length, chunks_length, behind, blocks_parted, blocks_between}
+-- What a bisection knows of the places, halved. Assumes nothing.
+use Rattle.std.specs.Prelude.{◌+◌, ◌-◌, ◌/◌}
+use Rattle.std.proofs.Common.{arith}
+use Rattle.sections.specs.RiseLaws.{between_left, between_right}
 use Rattle.sections.proofs.rise.first_past.Goals as goal
 
-pub returns : goal.returns
-returns c =
+pub loop-lo-preserved-then-x-pieces : goal.loop-lo-preserved-then-x-pieces
+loop-lo-preserved-then-x-pieces c =
     let a = c.args in
-    let z = rw (part_length a.pieces.now a.from a.to c.requires.1 c.requires.2) at c.as_chunks.ensures.front in
-    let p = IsPartitionPoint-from_clause (behind a.pieces.now a.from a.to c.requires.1 c.requires.2 a.x c.requires.0) _ _ c.partition_point.ensures.partitioned
-    (rw z (blocks_parted a.pieces.now a.from a.to c.requires.1 c.requires.2 a.x c.requires.0)) (λ b r q k. search rules) in
-    blocks_between a.pieces.now a.from a.to c.requires.1 c.requires.2 a.x c.requires.0 _ (rw (z, chunks_length) at c.partition_point.ensures.bound) (rw z at p)
+    let l = c.loop-lo in
+    between_left a.pieces.now a.from a.to c.requires.0 a.x l.lo l.hi (l.lo + (l.hi - l.lo) / 2) l.invariant (omega arith) (omega (arith, c.loop-lo-test.true)) c.if-x-pieces.true
+
+pub loop-lo-preserved : goal.loop-lo-preserved
+loop-lo-preserved c =
+    let a = c.args in
+    let l = c.loop-lo in
+    between_right a.pieces.now a.from a.to c.requires.0 a.x l.lo l.hi (l.lo + (l.hi - l.lo) / 2) l.invariant (omega arith) (omega (arith, c.loop-lo-test.true)) c.if-x-pieces.false
