@@ -8,6 +8,7 @@ ghost use Rattle.passes.specs.Threads.{pairs_in, moved_in};
 
 use crate::threads::pair_in;
 use geom::P;
+use geom::flat::Points;
 use geom::sewing::{add_within, corner, put_point};
 use pairing::store::put_pair;
 use satinrules::{Pair, Satin, Style};
@@ -136,14 +137,17 @@ pub fn count_styled(line: &[f64], split: Option<f64>, style: Style, room: u64) -
     }
 }
 
-// A path's corners, from k on; answers the place after them.
+// A path's corners, from k on, one by one: `copy_from_slice` would have the archive ask for memmove. Answers the place after them.
 fn put_all(out: &mut [f64], k: usize, line: &[f64]) -> usize
     requires { k + length (flat (points line.now)) ≤ length out.old }
     ensures { (out.new ≡ put out.old k (flat (points line.now))) × (result ≡ k + length (flat (points line.now))) }
 {
-    let end = line.len() / 2 * 2;
-    out[k..k + end].copy_from_slice(&line[..end]);
-    k + end
+    let mut to = k;
+    for p in Points::of(line) {
+        put_point(out, to, p);
+        to += 2;
+    }
+    to
 }
 
 fn put_plain(out: &mut [f64], k: usize, line: &[f64], split: Option<f64>) -> usize

@@ -7,6 +7,7 @@ ghost use Rattle.satinrules.specs.Calls.{split_sewn, split_output, s_stitch_sewn
 
 pub mod matched;
 pub mod rails;
+pub mod slices;
 pub mod underlay;
 
 use crate::matched::sewn_pairs;

@@ -8,6 +8,7 @@ ghost use Rattle.pairing.specs.Store.{Sound};
 ghost use Rattle.satin.specs.Passed.{pairs_passed};
 
 use crate::rails::{BOTH_RAILS, need};
+use crate::slices::copy;
 use limits::MOST_PAIRS;
 use pairing::Rails;
 use pairing::store::{lay_pairs, put_rails};
@@ -31,7 +32,7 @@ fn pairs_along(rails: Rails, step: f64, work: &mut [f64], out: &mut [f64]) -> Re
         work.fill(0.0);
         return Err(Refusal::Room);
     }
-    out[..4 * n].copy_from_slice(&work[..4 * n]);
+    copy(out, &work[..4 * n]);
     work.fill(0.0);
     Ok((2 * n) as u64)
 }

@@ -40,6 +40,16 @@ fn merge(mut a: &[usize], mut b: &[usize], to: &mut [usize], table: &Table, key:
     }
 }
 
+// Places that were merged, back where they stood, one by one: `copy_from_slice` would have the archive ask for memmove.
+fn copy_back(l: &mut [usize], from: &[usize])
+    requires { length l.old ≡ length from.now }
+    ensures { l.new ≡ from.now }
+{
+    for (i, x) in l.iter_mut().enumerate() {
+        *x = from[i];
+    }
+}
+
 // The places are put in order, with as much room for the merging.
 fn merge_sort(l: &mut [usize], room: &mut [usize], table: &Table, key: Key)
     requires { (length l.old ≤ length room.old) × Strict (by key table.now) }
@@ -54,7 +64,7 @@ fn merge_sort(l: &mut [usize], room: &mut [usize], table: &Table, key: Key)
     merge_sort(a, room, table, key);
     merge_sort(b, room, table, key);
     merge(a, b, &mut room[..n], table, key);
-    l.copy_from_slice(&room[..n]);
+    copy_back(l, &room[..n]);
 }
 
 fn count_up(l: &mut [usize])

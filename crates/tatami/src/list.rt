@@ -12,6 +12,16 @@ use finding::find::Found;
 use refusal::Refusal;
 use sections::{Fill, mark_all};
 
+// The first n floats, one by one: `copy_from_slice` would have the archive ask for memmove.
+fn put_floats(out: &mut [f64], from: &[f64], n: usize)
+    requires { (n ≤ length out.old) × (n ≤ length from.now) }
+    ensures { out.new ≡ take n from.now ++ drop n out.old }
+{
+    for i in 0..n {
+        out[i] = from[i];
+    }
+}
+
 // The row numbers of n pieces, by the counts of their rows.
 fn put_rows(out: &mut [i64], numbers: &[usize], w: Rows, upward: bool, n: usize)
     requires { (n ≤ length out.old) × (n ≤ length numbers.now) × Spanned w × ((j : ℕ) → j < n → get_or numbers.now j 0 < w.n) }
@@ -62,7 +72,7 @@ fn list_pieces(
     };
     let w = t.rows;
     mark_all(t.outline, f, pieces, numbers, n, w.n);
-    ys[..3 * n].copy_from_slice(&pieces[..3 * n]);
+    put_floats(ys, pieces, 3 * n);
     put_rows(rows, numbers, w, t.upward, n);
     put_sections(sections, numbers, n);
     Ok(n as u64)

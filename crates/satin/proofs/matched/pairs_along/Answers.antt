@@ -7,7 +7,6 @@ use lib.ListN.{length, take, length-replicate}
 use Rattle.std.proofs.Common.{length-take-le}
 use Rattle.geom.specs.Outline.{points}
 use Rattle.geom.specs.Sewing.{flat}
-use Rattle.geom.specs.SewingLaws.{flat_length}
 use Rattle.satinrules.specs.Pairs.{pairs}
 use Rattle.satinrules.specs.Calls.{rails_of, need, both_points}
 use Rattle.pairing.specs.WalkLaws.{places_bound}
@@ -71,16 +70,16 @@ overflow_mul-n-2 c =
     let few : c.lay_pairs-n.result ≤ 65537 = omega (arith, c.if-pass-gt-MOST_PAIRS.false, c.lay_pairs-n.ensures.0, places_bound c.args.rails.course.ends (points a.rails.course.sync.now) c.pass-pass.result) in
     omega (arith, few)
 
-pub slice_bounds-copy_from_slice-end-3 : goal.slice_bounds-copy_from_slice-end-3
-slice_bounds-copy_from_slice-end-3 c = omega (arith, need_room c.args.rails.a.now c.args.rails.b.now c.args.rails.course.sync.now c.lay_pairs-n.result (length c.lay_pairs-n.new.w) (rw c.need.ensures at c.if-work-need.false))
+pub slice_bounds-copy-end : goal.slice_bounds-copy-end
+slice_bounds-copy-end c = omega (arith, need_room c.args.rails.a.now c.args.rails.b.now c.args.rails.course.sync.now c.lay_pairs-n.result (length c.lay_pairs-n.new.w) (rw c.need.ensures at c.if-work-need.false))
 
-pub slice_bounds-copy_from_slice-end-4 : goal.slice_bounds-copy_from_slice-end-4
-slice_bounds-copy_from_slice-end-4 c =
+pub slice_bounds-copy-end-2 : goal.slice_bounds-copy-end-2
+slice_bounds-copy-end-2 c =
     let n = need_room c.args.rails.a.now c.args.rails.b.now c.args.rails.course.sync.now c.lay_pairs-n.result (length c.lay_pairs-n.new.w) (rw c.need.ensures at c.if-work-need.false) in
     omega (arith, length-take-le (4 * c.lay_pairs-n.result) c.lay_pairs-n.new.w (omega (arith, n)))
 
-pub copy_from_slice-requires : goal.copy_from_slice-requires
-copy_from_slice-requires c =
+pub copy-requires : goal.copy-requires
+copy-requires c =
     let n = need_room c.args.rails.a.now c.args.rails.b.now c.args.rails.course.sync.now c.lay_pairs-n.result (length c.lay_pairs-n.new.w) (rw c.need.ensures at c.if-work-need.false) in
     omega (arith, length-take-le (4 * c.lay_pairs-n.result) c.args.out.now c.if-out-n.false, length-take-le (4 * c.lay_pairs-n.result) c.lay_pairs-n.new.w (omega (arith, n)))
 
@@ -104,8 +103,6 @@ returns c =
     let roomy : 4 * c.lay_pairs-n.result ≤ length a.work.now = omega (arith, need_room a.rails.a.now a.rails.b.now a.rails.course.sync.now c.lay_pairs-n.result (length a.work.now) (rw (c.need.ensures, c.lay_pairs-n.ensures.1) at c.if-work-need.false)) in
     let told = flat (both_points (pairs (rails_of a.rails.a.now a.rails.b.now a.rails.course.sync.now) a.step)) in
     let laid : take (4 * c.lay_pairs-n.result) c.lay_pairs-n.new.w ≡ told = rw (pairs_stored a.rails.a.now a.rails.b.now a.rails.course.sync.now a.step c.requires, ← q) (c.lay_pairs-n.ensures.2 roomy) in
-    let stored : length told ≡ 4 * c.lay_pairs-n.result = omega (arith, flat_length (both_points (pairs (rails_of a.rails.a.now a.rails.b.now a.rails.course.sync.now) a.step)), pairs_count a.rails.a.now a.rails.b.now a.rails.course.sync.now a.step c.requires, count) in
     let m = c.need.ensures ∙ ap (need (rails_of a.rails.a.now a.rails.b.now a.rails.course.sync.now)) count in
-    let e = c.copy_from_slice.ensures.after ∙ laid in
     rw (passed_done a.rails.a.now a.rails.b.now a.rails.course.sync.now a.step c.requires (length a.work.now) (length a.out.now) sizes (rw (m, c.lay_pairs-n.ensures.1) at c.if-work-need.false) (rw count at c.if-out-n.false))
-    (rw (count, pairs_count a.rails.a.now a.rails.b.now a.rails.course.sync.now a.step c.requires), rw (e, stored) refl, rw c.lay_pairs-n.ensures.1 at (c.fill-2.ensures.after (λ y h. search rules)))
+    (rw (count, pairs_count a.rails.a.now a.rails.b.now a.rails.course.sync.now a.step c.requires), rw laid at c.copy.ensures, rw c.lay_pairs-n.ensures.1 at (c.fill-2.ensures.after (λ y h. search rules)))

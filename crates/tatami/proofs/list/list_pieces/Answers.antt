@@ -2,9 +2,7 @@
 use mathlib.Core.Path.{refl, sym, ◌∙◌}
 use native.Mathlib.Omega.{arith}
 use Prim.Native.Nat.{◌*◌}
-use mathlib.Core.Path.{ap}
-use mathlib.Core.List.{◌++◌}
-use lib.ListN.{take, drop}
+use lib.ListN.{take}
 use lib.Seq.{length-take-le}
 use Rattle.refusal.specs.Refusal.{DONE}
 use Rattle.sewing.specs.Sewing.{numbers_in}
@@ -44,7 +42,7 @@ returns c =
     let n = count_is a.t.outline.corners.now a.t.outline.ends.now a.t a.n a.pieces.now a.numbers.now c.requires _ m in
     rw (sym c.has_room.ensures ∙ c.if-not-has_room.false) (
       λ i. record { answer = DONE; pieces = n i },
-      front_is (take (3 * a.n) a.pieces.now) _ a.ys.now (3 * a.n) (floats_listed a.t.outline.corners.now a.t.outline.ends.now a.t a.n a.pieces.now a.numbers.now c.requires _ m) (length-take-le (3 * a.n) a.pieces.now c.requires.floats) (ap (λ k. k ++ drop (3 * a.n) a.ys.now) c.copy_from_slice.ensures.after),
+      front_is (take (3 * a.n) a.pieces.now) _ a.ys.now (3 * a.n) (floats_listed a.t.outline.corners.now a.t.outline.ends.now a.t a.n a.pieces.now a.numbers.now c.requires _ m) (length-take-le (3 * a.n) a.pieces.now c.requires.floats) c.put_floats.ensures,
       front_is (rows_in a.t.rows a.t.upward a.n _) _ a.rows.now a.n (rows_listed a.t.outline.corners.now a.t.outline.ends.now a.t a.n a.pieces.now a.numbers.now c.requires _ m) (rows_length a.t.outline.corners.now a.t.outline.ends.now a.t a.n a.pieces.now a.numbers.now c.requires _ m) c.put_rows.ensures,
       front_is (numbers_in a.n _) _ a.sections.now a.n (sections_listed a.t.outline.corners.now a.t.outline.ends.now a.t a.n a.pieces.now a.numbers.now c.requires _ m) (numbers_length a.n _) c.put_sections.ensures,
     )
