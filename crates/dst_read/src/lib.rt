@@ -6,6 +6,7 @@ ghost use Rattle.dst_read.specs.Unread.{said_read};
 ghost use Rattle.dst_read.specs.Answers.{dst_read, points_left, marks_left};
 
 pub mod mark;
+pub mod names;
 pub mod records;
 pub mod scan;
 pub mod unread;

@@ -3,11 +3,10 @@ ghost use Rattle.std.specs.Prelude.{◌≡◌};
 ghost use Rattle.dst_read.specs.Reading.{verdict};
 ghost use Rattle.dst_read.specs.Unread.{said_verdict};
 
+use crate::names::MOST_RECORDS;
 use crate::records::Record;
 use crate::unread::Unread;
 use refusal::Refusal;
-
-const MOST_RECORDS: usize = 1000000;
 
 // How many records stand before the end.
 pub fn scan(bytes: &[u8]) -> Result<usize, Unread>
