@@ -62,7 +62,7 @@ pub fn row_list(
 ) -> Result<u64, Refusal>
     ensures { left_list (said_listed result) ys.new rows.new sections.new floats.new wholes.new ≡ row_list_left corners.now ends.now rule g stagger upward ys.old rows.old sections.old floats.old wholes.old }
 {
-    let t = plan(corners, ends, rule, g, stagger, upward)?;
-    let found = find(t, floats, wholes);
-    list_found(t, found, ys, rows, sections, floats, wholes)
+    let passed = plan(corners, ends, rule, g, stagger, upward)?;
+    let found = find(passed, floats, wholes);
+    list_found(passed, found, ys, rows, sections, floats, wholes)
 }

@@ -51,7 +51,7 @@ fn has_room(n: usize, ys: &[f64], rows: &[i64], sections: &[usize]) -> bool
 }
 
 // The part behind the edges, listed: how many pieces.
-fn list_pieces(
+pub fn list_pieces(
     t: Plan,
     n: usize,
     pieces: &[f64],

@@ -67,7 +67,7 @@ fn sew(
 }
 
 // The part behind the edges, sewn.
-fn sew_pieces(
+pub fn sew_pieces(
     t: Plan,
     n: usize,
     pieces: &[f64],
