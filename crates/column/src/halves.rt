@@ -6,7 +6,7 @@ ghost use Rattle.geom.specs.Sewing.{flat, fitted};
 ghost use Rattle.satinrules.specs.Pairs.{few};
 ghost use Rattle.satinrules.specs.Column.{column};
 ghost use Rattle.satinrules.specs.Calls.{rails_of, worked};
-ghost use Rattle.pairing.specs.Store.{Sound};
+ghost use Rattle.pairing.specs.Store.{Ended, Sound};
 ghost use Rattle.column.specs.Sized.{TopLaid};
 ghost use Rattle.column.specs.Halves.{Ready, path_in, top_path, column_passed};
 
@@ -14,6 +14,7 @@ use crate::sized::{Passes, column_most, column_sized, passes_of};
 use crate::topping::{after_zigzag, count_top, put_top};
 use geom::sewing::add_within;
 use pairing::Rails;
+use pairing::places::Course;
 use pairing::store::put_rails;
 use passes::top::put_stitches;
 use refusal::Refusal;
@@ -22,9 +23,17 @@ use satin::underlay::{count_underlay, put_underlay};
 use satinrules::Satin;
 
 // How many points both halves have, or room + 1 where they pass the room. The top's stitches stand in the working slice from then on, behind the pairs they go over.
-pub fn count_halves(work: &mut [f64], rails: Rails, p: Passes, g: Satin, room: u64) -> u64
-    requires { Ready rails.a.now rails.b.now rails.course.sync.now g rails.course.ends p (length work.old) × TopLaid rails.a.now rails.b.now rails.course.sync.now rails.course.ends p work.old × (room < 2 ^ 63) }
-    ensures { (result ≡ capped room (length (column (rails_of rails.entry.a.now rails.entry.b.now rails.entry.course.sync.now) g))) × (length work.new ≡ length work.old) × (path_in p work.new ≡ top_path rails.entry.a.now rails.entry.b.now rails.entry.course.sync.now g) }
+pub fn count_halves(
+    work: &mut [f64],
+    a: &[f64],
+    b: &[f64],
+    course: Course,
+    p: Passes,
+    g: Satin,
+    room: u64,
+) -> u64
+    requires { Ready a.now b.now course.sync.now g course.ends p (length work.old) × TopLaid a.now b.now course.sync.now course.ends p work.old × (room < 2 ^ 63) }
+    ensures { (result ≡ capped room (length (column (rails_of a.now b.now course.entry.sync.now) g))) × (length work.new ≡ length work.old) × (path_in p work.new ≡ top_path a.now b.now course.entry.sync.now g) }
 {
     put_stitches(work, p.t, g);
     let from = 4 * p.t;
@@ -58,7 +67,7 @@ pub fn sew_halves(
     ensures { (said_sewn result ≡ sewn (fitted (column (rails_of rails.entry.a.now rails.entry.b.now rails.entry.course.sync.now) g) (length out.old)) (length (column (rails_of rails.entry.a.now rails.entry.b.now rails.entry.course.sync.now) g))) × (out.new ≡ output (fitted (column (rails_of rails.entry.a.now rails.entry.b.now rails.entry.course.sync.now) g) (length out.old)) (flat (column (rails_of rails.entry.a.now rails.entry.b.now rails.entry.course.sync.now) g)) out.old) × (length work.new ≡ length work.old) }
 {
     let room = (out.len() / 2) as u64;
-    let points = count_halves(work, rails, p, g, room);
+    let points = count_halves(work, rails.a, rails.b, rails.course, p, g, room);
     if points > room {
         return Err(Refusal::Room);
     }
@@ -68,7 +77,7 @@ pub fn sew_halves(
 
 // The column to the front of out, by the running lengths of both rails; or SIZE, WORK or ROOM and nothing.
 fn column_along(rails: Rails, g: Satin, work: &mut [f64], out: &mut [f64]) -> Result<u64, Refusal>
-    requires { few (rails_of rails.a.now rails.b.now rails.course.sync.now) ≡ false }
+    requires { (few (rails_of rails.a.now rails.b.now rails.course.sync.now) ≡ false) × Ended rails.a.now rails.b.now rails.course.ends }
     ensures { (said_sewn result ≡ sewn (column_passed rails.entry.a.now rails.entry.b.now rails.entry.course.sync.now g (length work.old) (length out.old)) (length (column (rails_of rails.entry.a.now rails.entry.b.now rails.entry.course.sync.now) g))) × (out.new ≡ output (column_passed rails.entry.a.now rails.entry.b.now rails.entry.course.sync.now g (length work.old) (length out.old)) (flat (column (rails_of rails.entry.a.now rails.entry.b.now rails.entry.course.sync.now) g)) out.old) × (work.new ≡ worked (column_passed rails.entry.a.now rails.entry.b.now rails.entry.course.sync.now g (length work.old) (length out.old)) work.old) }
 {
     if !column_sized(rails.course, g) {

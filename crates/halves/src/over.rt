@@ -5,7 +5,7 @@ ghost use Rattle.geom.specs.Sewing.{flat, fitted};
 ghost use Rattle.satinrules.specs.Pairs.{few};
 ghost use Rattle.satinrules.specs.Column.{top};
 ghost use Rattle.satinrules.specs.Calls.{rails_of, worked};
-ghost use Rattle.pairing.specs.Store.{Sound};
+ghost use Rattle.pairing.specs.Store.{Ended, Sound};
 ghost use Rattle.halves.specs.Sewing.{top_passed, top_over};
 
 use column::sized::top_sized;
@@ -42,7 +42,7 @@ fn top_along(
     work: &mut [f64],
     out: &mut [f64],
 ) -> Result<u64, Refusal>
-    requires { few (rails_of rails.a.now rails.b.now rails.course.sync.now) ≡ false }
+    requires { (few (rails_of rails.a.now rails.b.now rails.course.sync.now) ≡ false) × Ended rails.a.now rails.b.now rails.course.ends }
     ensures { (said_sewn result ≡ sewn (top_passed rails.entry.a.now rails.entry.b.now rails.entry.course.sync.now g far (length work.old) (length out.old)) (length (top far (rails_of rails.entry.a.now rails.entry.b.now rails.entry.course.sync.now) g))) × (out.new ≡ output (top_passed rails.entry.a.now rails.entry.b.now rails.entry.course.sync.now g far (length work.old) (length out.old)) (flat (top far (rails_of rails.entry.a.now rails.entry.b.now rails.entry.course.sync.now) g)) out.old) × (work.new ≡ worked (top_passed rails.entry.a.now rails.entry.b.now rails.entry.course.sync.now g far (length work.old) (length out.old)) work.old) }
 {
     let style = g.style;

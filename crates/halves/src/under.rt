@@ -5,7 +5,7 @@ ghost use Rattle.geom.specs.Sewing.{flat, fitted};
 ghost use Rattle.satinrules.specs.Pairs.{few};
 ghost use Rattle.satinrules.specs.Column.{underlay};
 ghost use Rattle.satinrules.specs.Calls.{rails_of, worked};
-ghost use Rattle.pairing.specs.Store.{Sound};
+ghost use Rattle.pairing.specs.Store.{Ended, Sound};
 ghost use Rattle.column.specs.Halves.{UnderReady};
 ghost use Rattle.halves.specs.Sewing.{underlay_passed};
 
@@ -38,7 +38,7 @@ fn sew_underlay(
 
 // The underlay to the front of out, by the running lengths of both rails; or SIZE, WORK or ROOM and nothing.
 fn underlay_along(rails: Rails, g: Satin, work: &mut [f64], out: &mut [f64]) -> Result<u64, Refusal>
-    requires { few (rails_of rails.a.now rails.b.now rails.course.sync.now) ≡ false }
+    requires { (few (rails_of rails.a.now rails.b.now rails.course.sync.now) ≡ false) × Ended rails.a.now rails.b.now rails.course.ends }
     ensures { (said_sewn result ≡ sewn (underlay_passed rails.entry.a.now rails.entry.b.now rails.entry.course.sync.now g (length work.old) (length out.old)) (length (underlay (rails_of rails.entry.a.now rails.entry.b.now rails.entry.course.sync.now) g))) × (out.new ≡ output (underlay_passed rails.entry.a.now rails.entry.b.now rails.entry.course.sync.now g (length work.old) (length out.old)) (flat (underlay (rails_of rails.entry.a.now rails.entry.b.now rails.entry.course.sync.now) g)) out.old) × (work.new ≡ worked (underlay_passed rails.entry.a.now rails.entry.b.now rails.entry.course.sync.now g (length work.old) (length out.old)) work.old) }
 {
     let length = rails.course.total();

@@ -3,7 +3,7 @@ ghost use Rattle.std.specs.Prelude.{◌≡◌};
 ghost use Rattle.geom.specs.Outline.{points};
 ghost use Rattle.satinrules.specs.Arc.{lengths};
 ghost use Rattle.pairing.specs.Store.{Laid, Ended};
-ghost use Rattle.pairing.specs.LaidLaws.{laid_prop, ended_prop};
+ghost use Rattle.pairing.specs.LaidLaws.{laid_prop};
 
 use crate::places::Course;
 use geom::P;
@@ -16,7 +16,6 @@ pub struct Rails<'a> {
     pub lengths: &'a [f64],
     pub course: Course<'a>,
     ghost laid: { Laid a.now b.now lengths.now } by { laid_prop a.now b.now lengths.now },
-    ghost ended: { Ended a.now b.now course.ends } by { ended_prop a.now b.now course.ends },
 }
 
 impl<'a> Rails<'a> {
@@ -26,6 +25,7 @@ impl<'a> Rails<'a> {
         ensures of_a { result.a.now ≡ a.entry.now }
         ensures of_b { result.b.now ≡ b.entry.now }
         ensures in_step { result.course.sync.now ≡ sync.entry.now }
+        ensures ended { Ended result.a.now result.b.now result.course.ends }
     {
         let m = a.len() / 2;
         let n = b.len() / 2;

@@ -4,7 +4,7 @@ ghost use Rattle.refusal.specs.Sewn.{said_sewn, sewn, output};
 ghost use Rattle.geom.specs.Sewing.{flat};
 ghost use Rattle.satinrules.specs.Pairs.{few, pairs};
 ghost use Rattle.satinrules.specs.Calls.{rails_of, both_points, worked};
-ghost use Rattle.pairing.specs.Store.{Sound};
+ghost use Rattle.pairing.specs.Store.{Ended, Sound};
 ghost use Rattle.satin.specs.Passed.{pairs_passed};
 
 use crate::rails::{BOTH_RAILS, need};
@@ -16,7 +16,7 @@ use refusal::Refusal;
 
 // The pairs to the front of out, by the running lengths of both rails.
 fn pairs_along(rails: Rails, step: f64, work: &mut [f64], out: &mut [f64]) -> Result<u64, Refusal>
-    requires { few (rails_of rails.a.now rails.b.now rails.course.sync.now) ≡ false }
+    requires { (few (rails_of rails.a.now rails.b.now rails.course.sync.now) ≡ false) × Ended rails.a.now rails.b.now rails.course.ends }
     ensures { (said_sewn result ≡ sewn (pairs_passed rails.entry.a.now rails.entry.b.now rails.entry.course.sync.now step (length work.old) (length out.old)) (length (both_points (pairs (rails_of rails.entry.a.now rails.entry.b.now rails.entry.course.sync.now) step)))) × (out.new ≡ output (pairs_passed rails.entry.a.now rails.entry.b.now rails.entry.course.sync.now step (length work.old) (length out.old)) (flat (both_points (pairs (rails_of rails.entry.a.now rails.entry.b.now rails.entry.course.sync.now) step))) out.old) × (work.new ≡ worked (pairs_passed rails.entry.a.now rails.entry.b.now rails.entry.course.sync.now step (length work.old) (length out.old)) work.old) }
 {
     let pass = rails.course.pass(step);

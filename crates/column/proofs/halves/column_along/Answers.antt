@@ -15,8 +15,8 @@ use Rattle.column.proofs.halves.column_along.Goals as goal
 pub returns-then-not-column_sized : goal.returns-then-not-column_sized
 returns-then-not-column_sized c =
     let a = c.args in
-    let s = sym (sized_is a.rails.a.now a.rails.b.now a.rails.course.sync.now a.g (in_step c.args.rails.ended) (pass_steps a.g)) ∙ sym c.column_sized.ensures ∙ c.if-not-column_sized.true in
-    rw (column_size a.rails.a.now a.rails.b.now a.rails.course.sync.now a.g (length a.work.now) (length a.out.now) c.requires s) (refl, refl, refl)
+    let s = sym (sized_is a.rails.a.now a.rails.b.now a.rails.course.sync.now a.g (in_step c.requires.1) (pass_steps a.g)) ∙ sym c.column_sized.ensures ∙ c.if-not-column_sized.true in
+    rw (column_size a.rails.a.now a.rails.b.now a.rails.course.sync.now a.g (length a.work.now) (length a.out.now) c.requires.0 s) (refl, refl, refl)
 
 pub passes_of-p-requires : goal.passes_of-p-requires
 passes_of-p-requires c = (sym c.column_sized.ensures ∙ c.if-not-column_sized.false)
@@ -35,17 +35,17 @@ unfolding of_bits
 returns-then-work-need c =
     let a = c.args in
     let ok = sym c.column_sized.ensures ∙ c.if-not-column_sized.false in
-    let sizes = sym (sized_is a.rails.a.now a.rails.b.now a.rails.course.sync.now a.g (in_step c.args.rails.ended) (pass_steps a.g)) ∙ ok in
-    let most = most_is a.rails.a.now a.rails.b.now a.rails.course.sync.now a.g (in_step c.args.rails.ended) c.requires c.passes_of-p.ensures.0 ok in
+    let sizes = sym (sized_is a.rails.a.now a.rails.b.now a.rails.course.sync.now a.g (in_step c.requires.1) (pass_steps a.g)) ∙ ok in
+    let most = most_is a.rails.a.now a.rails.b.now a.rails.course.sync.now a.g (in_step c.requires.1) c.requires.0 c.passes_of-p.ensures.0 ok in
     let k = c.need.ensures ∙ ap (need (rails_of a.rails.a.now a.rails.b.now a.rails.course.sync.now)) (c.column_most.ensures ∙ sym most) in
-    rw (column_work_lem a.rails.a.now a.rails.b.now a.rails.course.sync.now a.g (length a.work.now) (length a.out.now) c.requires sizes (rw (k, c.passes_of-p.ensures.1) at c.if-work-need.true)) (refl, refl, rw c.passes_of-p.ensures.1 at (c.fill.ensures.after (λ y h. search rules)))
+    rw (column_work_lem a.rails.a.now a.rails.b.now a.rails.course.sync.now a.g (length a.work.now) (length a.out.now) c.requires.0 sizes (rw (k, c.passes_of-p.ensures.1) at c.if-work-need.true)) (refl, refl, rw c.passes_of-p.ensures.1 at (c.fill.ensures.after (λ y h. search rules)))
 
 pub sew_halves-r-requires : goal.sew_halves-r-requires
 sew_halves-r-requires c =
     let a = c.args in
     let ok = sym c.column_sized.ensures ∙ c.if-not-column_sized.false in
     let k = c.need.ensures ∙ ap (need (rails_of a.rails.a.now a.rails.b.now a.rails.course.sync.now)) c.column_most.ensures in
-    let w = ready a.rails.a.now a.rails.b.now a.rails.course.sync.now a.g (in_step c.args.rails.ended) c.requires c.passes_of-p.ensures.0 ok (length a.work.now) (rw (k, c.passes_of-p.ensures.1) at c.if-work-need.false) in
+    let w = ready a.rails.a.now a.rails.b.now a.rails.course.sync.now a.g (in_step c.requires.1) c.requires.0 c.passes_of-p.ensures.0 ok (length a.work.now) (rw (k, c.passes_of-p.ensures.1) at c.if-work-need.false) in
     (ready_same w c.passes_of-p.ensures.1, c.passes_of-p.ensures.2 (omega (arith, w.room_t)))
 
 pub shape_of-work : goal.shape_of-work
@@ -56,10 +56,10 @@ unfolding of_bits
 returns c =
     let a = c.args in
     let ok = sym c.column_sized.ensures ∙ c.if-not-column_sized.false in
-    let sizes = sym (sized_is a.rails.a.now a.rails.b.now a.rails.course.sync.now a.g (in_step c.args.rails.ended) (pass_steps a.g)) ∙ ok in
-    let most = most_is a.rails.a.now a.rails.b.now a.rails.course.sync.now a.g (in_step c.args.rails.ended) c.requires c.passes_of-p.ensures.0 ok in
+    let sizes = sym (sized_is a.rails.a.now a.rails.b.now a.rails.course.sync.now a.g (in_step c.requires.1) (pass_steps a.g)) ∙ ok in
+    let most = most_is a.rails.a.now a.rails.b.now a.rails.course.sync.now a.g (in_step c.requires.1) c.requires.0 c.passes_of-p.ensures.0 ok in
     let r = rails_of a.rails.a.now a.rails.b.now a.rails.course.sync.now in
     let h = c.sew_halves-r.ensures in
     let k = c.need.ensures ∙ ap (need r) (c.column_most.ensures ∙ sym most) in
-    rw (column_fitted a.rails.a.now a.rails.b.now a.rails.course.sync.now a.g (length a.work.now) (length a.out.now) c.requires sizes (rw (k, c.passes_of-p.ensures.1) at c.if-work-need.false))
+    rw (column_fitted a.rails.a.now a.rails.b.now a.rails.course.sync.now a.g (length a.work.now) (length a.out.now) c.requires.0 sizes (rw (k, c.passes_of-p.ensures.1) at c.if-work-need.false))
     (h.0, h.1, (rw (h.2, c.passes_of-p.ensures.1) at (c.fill-2.ensures.after (λ y h. search rules))) ∙ sym (worked_fitted (column r a.g) (length a.out.now) a.work.now))

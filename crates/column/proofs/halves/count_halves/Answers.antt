@@ -25,4 +25,4 @@ returns c =
     let n = 4 * a.p.t in
     let w = c.put_stitches.new.w in
     let s = stitched a.work.now w c.requires.0 c.requires.1 c.put_stitches.ensures in
-    (both_count c.requires.0 (take (n + n - n) (drop n w)) (lent_path n n w (top_path a.rails.a.now a.rails.b.now a.rails.course.sync.now a.g) s.1) c.count_underlay.result c.count_underlay.ensures a.room c.count_top-points.ensures c.add_within.ensures, s.0, s.1)
+    (both_count c.requires.0 (take (n + n - n) (drop n w)) (lent_path n n w (top_path a.a.now a.b.now a.course.sync.now a.g) s.1) c.count_underlay.result c.count_underlay.ensures a.room c.count_top-points.ensures c.add_within.ensures, s.0, s.1)

@@ -24,8 +24,8 @@ top_sized-requires c = c.total-length.ensures
 pub returns-then-not-top_sized : goal.returns-then-not-top_sized
 returns-then-not-top_sized c =
     let a = c.args in
-    let s = sym (sized_is a.rails.a.now a.rails.b.now a.rails.course.sync.now a.g (in_step c.args.rails.ended) (top_steps a.g)) ∙ sym c.top_sized.ensures ∙ c.if-not-top_sized.true in
-    rw (top_size a.rails.a.now a.rails.b.now a.rails.course.sync.now a.g (length a.work.now) (length a.out.now) c.requires a.far s) (refl, refl, refl)
+    let s = sym (sized_is a.rails.a.now a.rails.b.now a.rails.course.sync.now a.g (in_step c.requires.1) (top_steps a.g)) ∙ sym c.top_sized.ensures ∙ c.if-not-top_sized.true in
+    rw (top_size a.rails.a.now a.rails.b.now a.rails.course.sync.now a.g (length a.work.now) (length a.out.now) c.requires.0 a.far s) (refl, refl, refl)
 
 pub lay_pairs-t-requires : goal.lay_pairs-t-requires
 lay_pairs-t-requires c =
@@ -49,9 +49,9 @@ returns-then-work-need c =
     let ok = sym c.top_sized.ensures ∙ c.if-not-top_sized.false in
     let asked = c.pass_along-pass.ensures ∙ pass_by c.args.rails.course.ends (points a.rails.course.sync.now) _ c.total-length.ensures ∙ ap (pass_of c.args.rails.course.ends (points a.rails.course.sync.now)) c.spaced.ensures in
     let l = c.lay_pairs-t.ensures in
-    let n = top_most a.rails.a.now a.rails.b.now a.rails.course.sync.now a.g (in_step c.args.rails.ended) c.requires asked l.0 ok in
+    let n = top_most a.rails.a.now a.rails.b.now a.rails.course.sync.now a.g (in_step c.requires.1) c.requires.0 asked l.0 ok in
     let k = c.need.ensures ∙ ap (need (rails_of a.rails.a.now a.rails.b.now a.rails.course.sync.now)) (sym n) in
-    rw (top_work_lem a.rails.a.now a.rails.b.now a.rails.course.sync.now a.g (length a.work.now) (length a.out.now) c.requires a.far (sym (sized_is a.rails.a.now a.rails.b.now a.rails.course.sync.now a.g (in_step c.args.rails.ended) (top_steps a.g)) ∙ ok) (rw (k, l.1) at c.if-work-need.true)) (refl, refl, rw l.1 at (c.fill.ensures.after (λ y h. search rules)))
+    rw (top_work_lem a.rails.a.now a.rails.b.now a.rails.course.sync.now a.g (length a.work.now) (length a.out.now) c.requires.0 a.far (sym (sized_is a.rails.a.now a.rails.b.now a.rails.course.sync.now a.g (in_step c.requires.1) (top_steps a.g)) ∙ ok) (rw (k, l.1) at c.if-work-need.true)) (refl, refl, rw l.1 at (c.fill.ensures.after (λ y h. search rules)))
 
 pub sew_top-r-requires : goal.sew_top-r-requires
 sew_top-r-requires c =
@@ -59,7 +59,7 @@ sew_top-r-requires c =
     let ok = sym c.top_sized.ensures ∙ c.if-not-top_sized.false in
     let asked = c.pass_along-pass.ensures ∙ pass_by c.args.rails.course.ends (points a.rails.course.sync.now) _ c.total-length.ensures ∙ ap (pass_of c.args.rails.course.ends (points a.rails.course.sync.now)) c.spaced.ensures in
     let l = c.lay_pairs-t.ensures in
-    let f = top_fit a.rails.a.now a.rails.b.now a.rails.course.sync.now a.g (in_step c.args.rails.ended) c.requires asked l.0 ok in
+    let f = top_fit a.rails.a.now a.rails.b.now a.rails.course.sync.now a.g (in_step c.requires.1) c.requires.0 asked l.0 ok in
     let small : c.lay_pairs-t.result ≤ 65537 = rw (l.0, asked) (top_small c.args.rails.course.ends (points a.rails.course.sync.now) a.g ok) in
     (fit_some f, small, need_room a.rails.a.now a.rails.b.now a.rails.course.sync.now _ _ (rw c.need.ensures at c.if-work-need.false))
 
@@ -73,10 +73,10 @@ returns c =
     let ok = sym c.top_sized.ensures ∙ c.if-not-top_sized.false in
     let asked = c.pass_along-pass.ensures ∙ pass_by c.args.rails.course.ends (points a.rails.course.sync.now) _ c.total-length.ensures ∙ ap (pass_of c.args.rails.course.ends (points a.rails.course.sync.now)) c.spaced.ensures in
     let l = c.lay_pairs-t.ensures in
-    let f = top_fit a.rails.a.now a.rails.b.now a.rails.course.sync.now a.g (in_step c.args.rails.ended) c.requires asked l.0 ok in
-    let n = top_most a.rails.a.now a.rails.b.now a.rails.course.sync.now a.g (in_step c.args.rails.ended) c.requires asked l.0 ok in
+    let f = top_fit a.rails.a.now a.rails.b.now a.rails.course.sync.now a.g (in_step c.requires.1) c.requires.0 asked l.0 ok in
+    let n = top_most a.rails.a.now a.rails.b.now a.rails.course.sync.now a.g (in_step c.requires.1) c.requires.0 asked l.0 ok in
     let k = c.need.ensures ∙ ap (need (rails_of a.rails.a.now a.rails.b.now a.rails.course.sync.now)) (sym n) in
     let room = need_room a.rails.a.now a.rails.b.now a.rails.course.sync.now _ _ (rw c.need.ensures at c.if-work-need.false) in
     let h = rw (over_is a.g f a.far c.lay_pairs-t.new.w (l.2 (omega (arith, room, l.0, l.1)))) at c.sew_top-r.ensures in
-    rw (top_fitted a.rails.a.now a.rails.b.now a.rails.course.sync.now a.g (length a.work.now) (length a.out.now) c.requires a.far (sym (sized_is a.rails.a.now a.rails.b.now a.rails.course.sync.now a.g (in_step c.args.rails.ended) (top_steps a.g)) ∙ ok) (rw (k, l.1) at c.if-work-need.false))
+    rw (top_fitted a.rails.a.now a.rails.b.now a.rails.course.sync.now a.g (length a.work.now) (length a.out.now) c.requires.0 a.far (sym (sized_is a.rails.a.now a.rails.b.now a.rails.course.sync.now a.g (in_step c.requires.1) (top_steps a.g)) ∙ ok) (rw (k, l.1) at c.if-work-need.false))
     (h.0, h.1, (rw (h.2, l.1) at (c.fill-2.ensures.after (λ y h. search rules))) ∙ sym (worked_fitted (top a.far (rails_of a.rails.a.now a.rails.b.now a.rails.course.sync.now) a.g) (length a.out.now) a.work.now))

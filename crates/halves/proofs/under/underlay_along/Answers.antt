@@ -20,8 +20,8 @@ underlay_sized-requires c = c.total-length.ensures
 pub returns-then-not-underlay_sized : goal.returns-then-not-underlay_sized
 returns-then-not-underlay_sized c =
     let a = c.args in
-    let s = sym (sized_is a.rails.a.now a.rails.b.now a.rails.course.sync.now a.g (in_step c.args.rails.ended) (underlay_steps a.g)) ∙ sym c.underlay_sized.ensures ∙ c.if-not-underlay_sized.true in
-    rw (underlay_size a.rails.a.now a.rails.b.now a.rails.course.sync.now a.g (length a.work.now) (length a.out.now) c.requires s) (refl, refl, refl)
+    let s = sym (sized_is a.rails.a.now a.rails.b.now a.rails.course.sync.now a.g (in_step c.requires.1) (underlay_steps a.g)) ∙ sym c.underlay_sized.ensures ∙ c.if-not-underlay_sized.true in
+    rw (underlay_size a.rails.a.now a.rails.b.now a.rails.course.sync.now a.g (length a.work.now) (length a.out.now) c.requires.0 s) (refl, refl, refl)
 
 pub underlay_passes-u-requires : goal.underlay_passes-u-requires
 underlay_passes-u-requires c = (c.total-length.ensures, sym c.underlay_sized.ensures ∙ c.if-not-underlay_sized.false)
@@ -39,15 +39,15 @@ unfolding of_bits
 returns-then-work-need c =
     let a = c.args in
     let ok = sym c.underlay_sized.ensures ∙ c.if-not-underlay_sized.false in
-    let k = c.need.ensures ∙ ap (need (rails_of a.rails.a.now a.rails.b.now a.rails.course.sync.now)) (c.underlay_most.ensures ∙ sym (underlay_most a.rails.a.now a.rails.b.now a.rails.course.sync.now a.g (in_step c.args.rails.ended) c.requires c.underlay_passes-u.ensures ok)) in
-    rw (underlay_work_lem a.rails.a.now a.rails.b.now a.rails.course.sync.now a.g (length a.work.now) (length a.out.now) c.requires (sym (sized_is a.rails.a.now a.rails.b.now a.rails.course.sync.now a.g (in_step c.args.rails.ended) (underlay_steps a.g)) ∙ ok) (rw k at c.if-work-need.true)) (refl, refl, (c.fill.ensures.after (λ y h. search rules)))
+    let k = c.need.ensures ∙ ap (need (rails_of a.rails.a.now a.rails.b.now a.rails.course.sync.now)) (c.underlay_most.ensures ∙ sym (underlay_most a.rails.a.now a.rails.b.now a.rails.course.sync.now a.g (in_step c.requires.1) c.requires.0 c.underlay_passes-u.ensures ok)) in
+    rw (underlay_work_lem a.rails.a.now a.rails.b.now a.rails.course.sync.now a.g (length a.work.now) (length a.out.now) c.requires.0 (sym (sized_is a.rails.a.now a.rails.b.now a.rails.course.sync.now a.g (in_step c.requires.1) (underlay_steps a.g)) ∙ ok) (rw k at c.if-work-need.true)) (refl, refl, (c.fill.ensures.after (λ y h. search rules)))
 
 pub sew_underlay-r-requires : goal.sew_underlay-r-requires
 sew_underlay-r-requires c =
     let a = c.args in
     let ok = sym c.underlay_sized.ensures ∙ c.if-not-underlay_sized.false in
     let k = c.need.ensures ∙ ap (need (rails_of a.rails.a.now a.rails.b.now a.rails.course.sync.now)) c.underlay_most.ensures in
-    (under_ready a.rails.a.now a.rails.b.now a.rails.course.sync.now a.g (in_step c.args.rails.ended) c.requires c.underlay_passes-u.ensures ok (length a.work.now) (need_room a.rails.a.now a.rails.b.now a.rails.course.sync.now (most_under c.underlay_passes-u.result) (length a.work.now) (rw k at c.if-work-need.false)))
+    (under_ready a.rails.a.now a.rails.b.now a.rails.course.sync.now a.g (in_step c.requires.1) c.requires.0 c.underlay_passes-u.ensures ok (length a.work.now) (need_room a.rails.a.now a.rails.b.now a.rails.course.sync.now (most_under c.underlay_passes-u.result) (length a.work.now) (rw k at c.if-work-need.false)))
 
 pub shape_of-work : goal.shape_of-work
 shape_of-work c = ap length (c.fill-2.ensures.after (λ y h. search rules)) ∙ length-replicate _ _ ∙ c.sew_underlay-r.ensures.2
@@ -57,7 +57,7 @@ unfolding of_bits
 returns c =
     let a = c.args in
     let ok = sym c.underlay_sized.ensures ∙ c.if-not-underlay_sized.false in
-    let k = c.need.ensures ∙ ap (need (rails_of a.rails.a.now a.rails.b.now a.rails.course.sync.now)) (c.underlay_most.ensures ∙ sym (underlay_most a.rails.a.now a.rails.b.now a.rails.course.sync.now a.g (in_step c.args.rails.ended) c.requires c.underlay_passes-u.ensures ok)) in
+    let k = c.need.ensures ∙ ap (need (rails_of a.rails.a.now a.rails.b.now a.rails.course.sync.now)) (c.underlay_most.ensures ∙ sym (underlay_most a.rails.a.now a.rails.b.now a.rails.course.sync.now a.g (in_step c.requires.1) c.requires.0 c.underlay_passes-u.ensures ok)) in
     let h = c.sew_underlay-r.ensures in
-    rw (underlay_fitted a.rails.a.now a.rails.b.now a.rails.course.sync.now a.g (length a.work.now) (length a.out.now) c.requires (sym (sized_is a.rails.a.now a.rails.b.now a.rails.course.sync.now a.g (in_step c.args.rails.ended) (underlay_steps a.g)) ∙ ok) (rw k at c.if-work-need.false))
+    rw (underlay_fitted a.rails.a.now a.rails.b.now a.rails.course.sync.now a.g (length a.work.now) (length a.out.now) c.requires.0 (sym (sized_is a.rails.a.now a.rails.b.now a.rails.course.sync.now a.g (in_step c.requires.1) (underlay_steps a.g)) ∙ ok) (rw k at c.if-work-need.false))
     (h.0, h.1, (rw h.2 at (c.fill-2.ensures.after (λ y h. search rules))) ∙ sym (worked_fitted (underlay (rails_of a.rails.a.now a.rails.b.now a.rails.course.sync.now) a.g) (length a.out.now) a.work.now))

@@ -18,8 +18,8 @@ use Rattle.satin.proofs.matched.pairs_along.Goals as goal
 pub returns-then-pass-gt-MOST_PAIRS : goal.returns-then-pass-gt-MOST_PAIRS
 returns-then-pass-gt-MOST_PAIRS c =
     let a = c.args in
-    let n = pass_n a.rails.a.now a.rails.b.now a.rails.course.sync.now a.step (in_step c.args.rails.ended) c.pass-pass.ensures in
-    rw (passed_size a.rails.a.now a.rails.b.now a.rails.course.sync.now a.step c.requires (length a.work.now) (length a.out.now) (rw n at c.if-pass-gt-MOST_PAIRS.true)) (refl, refl, refl)
+    let n = pass_n a.rails.a.now a.rails.b.now a.rails.course.sync.now a.step (in_step c.requires.1) c.pass-pass.ensures in
+    rw (passed_size a.rails.a.now a.rails.b.now a.rails.course.sync.now a.step c.requires.0 (length a.work.now) (length a.out.now) (rw n at c.if-pass-gt-MOST_PAIRS.true)) (refl, refl, refl)
 
 pub lay_pairs-n-requires : goal.lay_pairs-n-requires
 lay_pairs-n-requires c = omega (arith, c.if-pass-gt-MOST_PAIRS.false)
@@ -37,12 +37,12 @@ pub returns-then-work-need : goal.returns-then-work-need
 unfolding of_bits
 returns-then-work-need c =
     let a = c.args in
-    let m = pass_n a.rails.a.now a.rails.b.now a.rails.course.sync.now a.step (in_step c.args.rails.ended) c.pass-pass.ensures in
+    let m = pass_n a.rails.a.now a.rails.b.now a.rails.course.sync.now a.step (in_step c.requires.1) c.pass-pass.ensures in
     let sizes = rw m at c.if-pass-gt-MOST_PAIRS.false in
-    let q = pass_places a.rails.a.now a.rails.b.now a.rails.course.sync.now a.step (in_step c.args.rails.ended) c.pass-pass.ensures in
+    let q = pass_places a.rails.a.now a.rails.b.now a.rails.course.sync.now a.step (in_step c.requires.1) c.pass-pass.ensures in
     let count = c.lay_pairs-n.ensures.0 ∙ ap length q in
     let m = c.need.ensures ∙ ap (need (rails_of a.rails.a.now a.rails.b.now a.rails.course.sync.now)) count in
-    rw (passed_work a.rails.a.now a.rails.b.now a.rails.course.sync.now a.step c.requires (length a.work.now) (length a.out.now) sizes (rw (m, c.lay_pairs-n.ensures.1) at c.if-work-need.true)) (refl, refl, rw c.lay_pairs-n.ensures.1 at (c.fill.ensures.after (λ y h. search rules)))
+    rw (passed_work a.rails.a.now a.rails.b.now a.rails.course.sync.now a.step c.requires.0 (length a.work.now) (length a.out.now) sizes (rw (m, c.lay_pairs-n.ensures.1) at c.if-work-need.true)) (refl, refl, rw c.lay_pairs-n.ensures.1 at (c.fill.ensures.after (λ y h. search rules)))
 
 pub overflow_mul-n : goal.overflow_mul-n
 overflow_mul-n c =
@@ -57,12 +57,12 @@ pub returns-then-out-n : goal.returns-then-out-n
 unfolding of_bits
 returns-then-out-n c =
     let a = c.args in
-    let m = pass_n a.rails.a.now a.rails.b.now a.rails.course.sync.now a.step (in_step c.args.rails.ended) c.pass-pass.ensures in
+    let m = pass_n a.rails.a.now a.rails.b.now a.rails.course.sync.now a.step (in_step c.requires.1) c.pass-pass.ensures in
     let sizes = rw m at c.if-pass-gt-MOST_PAIRS.false in
-    let q = pass_places a.rails.a.now a.rails.b.now a.rails.course.sync.now a.step (in_step c.args.rails.ended) c.pass-pass.ensures in
+    let q = pass_places a.rails.a.now a.rails.b.now a.rails.course.sync.now a.step (in_step c.requires.1) c.pass-pass.ensures in
     let count = c.lay_pairs-n.ensures.0 ∙ ap length q in
     let m = c.need.ensures ∙ ap (need (rails_of a.rails.a.now a.rails.b.now a.rails.course.sync.now)) count in
-    rw (passed_room a.rails.a.now a.rails.b.now a.rails.course.sync.now a.step c.requires (length a.work.now) (length a.out.now) sizes (rw (m, c.lay_pairs-n.ensures.1) at c.if-work-need.false) (rw count at c.if-out-n.true)) (refl, refl, rw c.lay_pairs-n.ensures.1 at (c.fill-then-out-n.ensures.after (λ y h. search rules)))
+    rw (passed_room a.rails.a.now a.rails.b.now a.rails.course.sync.now a.step c.requires.0 (length a.work.now) (length a.out.now) sizes (rw (m, c.lay_pairs-n.ensures.1) at c.if-work-need.false) (rw count at c.if-out-n.true)) (refl, refl, rw c.lay_pairs-n.ensures.1 at (c.fill-then-out-n.ensures.after (λ y h. search rules)))
 
 pub overflow_mul-n-2 : goal.overflow_mul-n-2
 overflow_mul-n-2 c =
@@ -96,13 +96,13 @@ pub returns : goal.returns
 unfolding of_bits
 returns c =
     let a = c.args in
-    let m = pass_n a.rails.a.now a.rails.b.now a.rails.course.sync.now a.step (in_step c.args.rails.ended) c.pass-pass.ensures in
+    let m = pass_n a.rails.a.now a.rails.b.now a.rails.course.sync.now a.step (in_step c.requires.1) c.pass-pass.ensures in
     let sizes = rw m at c.if-pass-gt-MOST_PAIRS.false in
-    let q = pass_places a.rails.a.now a.rails.b.now a.rails.course.sync.now a.step (in_step c.args.rails.ended) c.pass-pass.ensures in
+    let q = pass_places a.rails.a.now a.rails.b.now a.rails.course.sync.now a.step (in_step c.requires.1) c.pass-pass.ensures in
     let count = c.lay_pairs-n.ensures.0 ∙ ap length q in
     let roomy : 4 * c.lay_pairs-n.result ≤ length a.work.now = omega (arith, need_room a.rails.a.now a.rails.b.now a.rails.course.sync.now c.lay_pairs-n.result (length a.work.now) (rw (c.need.ensures, c.lay_pairs-n.ensures.1) at c.if-work-need.false)) in
     let told = flat (both_points (pairs (rails_of a.rails.a.now a.rails.b.now a.rails.course.sync.now) a.step)) in
-    let laid : take (4 * c.lay_pairs-n.result) c.lay_pairs-n.new.w ≡ told = rw (pairs_stored a.rails.a.now a.rails.b.now a.rails.course.sync.now a.step c.requires, ← q) (c.lay_pairs-n.ensures.2 roomy) in
+    let laid : take (4 * c.lay_pairs-n.result) c.lay_pairs-n.new.w ≡ told = rw (pairs_stored a.rails.a.now a.rails.b.now a.rails.course.sync.now a.step c.requires.0, ← q) (c.lay_pairs-n.ensures.2 roomy) in
     let m = c.need.ensures ∙ ap (need (rails_of a.rails.a.now a.rails.b.now a.rails.course.sync.now)) count in
-    rw (passed_done a.rails.a.now a.rails.b.now a.rails.course.sync.now a.step c.requires (length a.work.now) (length a.out.now) sizes (rw (m, c.lay_pairs-n.ensures.1) at c.if-work-need.false) (rw count at c.if-out-n.false))
-    (rw (count, pairs_count a.rails.a.now a.rails.b.now a.rails.course.sync.now a.step c.requires), rw laid at c.copy.ensures, rw c.lay_pairs-n.ensures.1 at (c.fill-2.ensures.after (λ y h. search rules)))
+    rw (passed_done a.rails.a.now a.rails.b.now a.rails.course.sync.now a.step c.requires.0 (length a.work.now) (length a.out.now) sizes (rw (m, c.lay_pairs-n.ensures.1) at c.if-work-need.false) (rw count at c.if-out-n.false))
+    (rw (count, pairs_count a.rails.a.now a.rails.b.now a.rails.course.sync.now a.step c.requires.0), rw laid at c.copy.ensures, rw c.lay_pairs-n.ensures.1 at (c.fill-2.ensures.after (λ y h. search rules)))

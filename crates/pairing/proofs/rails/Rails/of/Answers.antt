@@ -15,5 +15,5 @@ overflow_sub-result-2 c = omega (arith, some_b_lem c.requires)
 pub bounds-lengths-m-2 : goal.bounds-lengths-m-2
 bounds-lengths-m-2 c = omega (arith, some_b_lem c.requires, c.requires.room)
 
-pub invariant_of-result-clause-ended : goal.invariant_of-result-clause-ended
-invariant_of-result-clause-ended c = record { at_a = last_a c.requires; at_b = last_b c.requires }
+pub returns-clause-ended : goal.returns-clause-ended
+returns-clause-ended c = record { at_a = last_a c.requires; at_b = last_b c.requires }
