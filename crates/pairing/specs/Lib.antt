@@ -8,3 +8,4 @@ pub mod Walking
 pub mod WalkingLaws
 pub mod Laying
 pub mod LayingLaws
+pub mod EndsLaws
