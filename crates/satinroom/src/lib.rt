@@ -38,6 +38,7 @@ fn ends_of(a: &[f64], b: &[f64]) -> P
 }
 
 // The larger of m and the n of a pass, where it is sewn.
+#[tactic(auto, using(crate::specs::RoomLaws::most_max), unfolding(crate::specs::Room::largest_from, pairing::specs::Walk::pass_of))]
 fn larger_pass(m: u64, sewn: bool, course: Course, step: f64) -> u64
     ensures { result ≡ largest_from course.entry.ends (points course.entry.sync.now) m (only_if sewn (step ∷ [])) }
 {
