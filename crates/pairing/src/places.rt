@@ -126,10 +126,12 @@ impl<'a> Iterator for Windows<'a> {
 }
 
 // The places of a pass, one after the other: s into a window, as long as it has places and there are some left; the ends come last.
+// Where the window ends is worked out once for it, and not at each place.
 #[derive(Drop)]
 pub struct Places<'a> {
     windows: Windows<'a>,
     window: Window,
+    end: f64,
     s: f64,
     left: u64,
     step: f64,
@@ -142,9 +144,15 @@ impl<'a> Model for Places<'a> {
 
     ghost Value = { List P };
 
+    ghost use Rattle.std.specs.Prelude.{◌≡◌};
+    ghost use Rattle.numbers.specs.Num.{◌⊖◌};
+    ghost use Rattle.polyline.specs.Line.{shortest};
+    ghost use Rattle.satinrules.specs.Pairs.{centre};
     ghost use Rattle.pairing.specs.Walk.{places_left};
 
     ghost view = { λ s. places_left s.step s.window.from s.window.to s.windows s.s s.left s.ends };
+
+    ghost invariant = { λ s. s.end ≡ centre s.window.from s.window.to ⊖ shortest };
 }
 
 impl<'a> Places<'a> {
@@ -152,12 +160,14 @@ impl<'a> Places<'a> {
         ensures { result ≡ walk_places ends (points sync.now) pass }
     {
         let origin = P { x: 0.0, y: 0.0 };
+        let window = Window {
+            from: origin,
+            to: origin,
+        };
         Places {
             windows: Windows::of(sync, ends),
-            window: Window {
-                from: origin,
-                to: origin,
-            },
+            window,
+            end: window.end(),
             s: 0.0,
             left: pass.n,
             step: pass.step,
@@ -176,12 +186,13 @@ impl<'a> Iterator for Places<'a> {
     ghost remaining = { λ s. at_most (length s) };
 
     fn next(&mut self) -> Option<P> {
-        while self.left == 0 || !(self.s < self.window.end()) {
+        while self.left == 0 || !(self.s < self.end) {
             let Some(w) = self.windows.next() else {
                 return self.ends.take();
             };
             self.s = self.s - self.window.centre();
             self.window = w;
+            self.end = w.end();
         }
         let place = self.window.place(self.s);
         self.s = self.s + self.step;
