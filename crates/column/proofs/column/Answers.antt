@@ -1,5 +1,8 @@
 -- `column` meets its contract: each answer follows from the tests on the way to it. Assumes nothing.
 use borrow.Author.Rules.{rules}
+use mathlib.Core.Bool.{true}
+use mathlib.Core.Path.{◌≡◌}
+use Rattle.satinrules.specs.Settings.{good_satin}
 use lib.Ieee.{of_bits}
 use mathlib.Core.Path.{refl, sym, ◌∙◌}
 use native.Mathlib.Omega.{arith}
@@ -29,14 +32,14 @@ returns-in_err-unless c =
     let a = c.args in
     let u = c.in_err-unless.ensures in
     let p = err_from_is_err_and c.from_residual-in_err-unless.result c.from_residual-in_err-unless.ensures.1 in
-    rw (p.1, p.2, u.0, refused_setting a.a.now a.b.now a.sync.now a.g (length a.work.now) (length a.out.now) c.in_ok-accepted.ensures (sym c.good_satin.ensures ∙ u.1)) (refl, refl, refl)
+    rw (p.1, p.2, u.0, refused_setting a.a.now a.b.now a.sync.now a.g (length a.work.now) (length a.out.now) c.in_ok-accepted.ensures (search rules)) (refl, refl, refl)
 
 pub returns-then-few_corners : goal.returns-then-few_corners
 unfolding column_output column_sewn column_work flat of_bits
 returns-then-few_corners c =
     let a = c.args in
     let r = c.in_ok-accepted.ensures in
-    let s = sym c.good_satin.ensures ∙ c.in_ok-unless.ensures in
+    let s : good_satin a.g ≡ true = search rules in
     let f = sym (few_any a.a.now a.b.now a.sync.now) ∙ sym c.few_corners.ensures ∙ c.if-few_corners.true in
     rw (passed_few a.a.now a.b.now a.sync.now a.g (length a.work.now) (length a.out.now) r s f, no_column (rails_of a.a.now a.b.now a.sync.now) a.g f) (refl, refl, (c.fill.ensures.after (λ y h. search rules)))
 
@@ -52,5 +55,5 @@ unfolding column_output column_sewn column_work
 returns c =
     let a = c.args in
     let r = c.in_ok-accepted.ensures in
-    let s = sym c.good_satin.ensures ∙ c.in_ok-unless.ensures in
+    let s : good_satin a.g ≡ true = search rules in
     rw (passed_on a.a.now a.b.now a.sync.now a.g (length a.work.now) (length a.out.now) r s) c.sewn_column.ensures
