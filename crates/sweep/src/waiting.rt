@@ -67,7 +67,8 @@ fn merge_sort(l: &mut [usize], room: &mut [usize], table: &Table, key: Key)
     copy_back(l, &room[..n]);
 }
 
-fn count_up(l: &mut [usize])
+// Each place its own number.
+pub fn count_up(l: &mut [usize])
     ensures { l.new ≡ upto 0 (length l.old) }
 {
     for (i, x) in l.iter_mut().enumerate() {
